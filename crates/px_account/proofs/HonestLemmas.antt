@@ -255,12 +255,12 @@ module _ (j : JobTree) where
   tabled : (points : List Point) (seen : List Prefix) (places : List Leads) → AreReached j places → length seen ≤ j.limits.nodes → ended_cases seen ≤ j.limits.paths →
       ReadsHonestly j (reading (length seen) (ended_cases seen) places [] []) points → Tabled points seen places
   tabled [] seen places reached few few_ended (none, e, d) =
-      ([], [], subst (λ z. Finishes j seen (prefixes_from j z) [] []) (sym none) (finishes_at_once seen few few_ended), none, refl, refl)
+      ([], [], subst (λ z. Finishes j seen (prefixes_from j z) [] []) (sym none) (finishes_at_once seen few few_ended), (none, refl, refl))
   tabled (pt ∷ later) seen [] reached few few_ended h = absurd h.0
   tabled (point.Dead ∷ later) seen (a ∷ others) reached few few_ended (so, h) =
       tabled_gone (point.Dead ∷ later) later seen a others reached.0 (dead_isnt_live j.kinds (first_stop j a).prefix so) (λ xs gaps k. (so, k)) (tabled later seen others reached.1 few few_ended h)
   tabled (point.Refuted n ∷ later) seen (a ∷ others) reached few few_ended (so, h) =
-      tabled_gone (point.Refuted n ∷ later) later seen a others reached.0 (refuted_isnt_live j.kinds (first_stop j a).prefix n so.1.0) (λ xs gaps k. ((so.0, so.1.0), k))
+      tabled_gone (point.Refuted n ∷ later) later seen a others reached.0 (refuted_isnt_live j.kinds (first_stop j a).prefix n so.1) (λ xs gaps k. ((so.0, so.1), k))
       (tabled later seen others reached.1 few few_ended h)
   tabled (point.Branch ∷ later) seen (a ∷ others) reached few few_ended (so, h) =
       let s = first_stop j a in
@@ -283,7 +283,8 @@ module _ (j : JobTree) where
       (subst (λ z. ReadsHonestly j (reading (length seen + 1) z others [] []) later) (sym (no_cases (ended_cases seen))) h))))
   tabled (point.Entry ∷ later) seen (a ∷ others) reached few few_ended (so, h) =
       let s = first_stop j a in
-      let (x, row) = so.2 in
+      let x = so.2 in
+      let row = so.3 in
       let e = gives_case s.prefix x row in
       let entry = found_entry s.prefix x row in
       let alone = alone_with a others (entry_isnt_choice j s.prefix x entry) in
@@ -294,7 +295,8 @@ module _ (j : JobTree) where
       (honest_at later seen s.prefix (s.extensions ++ others) 1 e (subst (λ z. ReadsHonestly j (reading (length seen + 1) (ended_cases seen + 1) z [] []) later) (sym alone) h)))
   tabled (point.Drop ∷ later) seen (a ∷ others) reached few few_ended (so, h) =
       let s = first_stop j a in
-      let (gap, row) = so.2 in
+      let gap = so.2 in
+      let row = so.3 in
       let e = misses_case s.prefix gap row in
       let alone = alone_with a others (drop_isnt_choice j s.prefix gap row) in
       tabled_row (point.Drop ∷ later) later seen a others (Misses gap) 1 so.0 row e
@@ -304,7 +306,8 @@ module _ (j : JobTree) where
       (honest_at later seen s.prefix (s.extensions ++ others) 1 e (subst (λ z. ReadsHonestly j (reading (length seen + 1) (ended_cases seen + 1) z [] []) later) (sym alone) h)))
   tabled (point.Stop ∷ later) seen (a ∷ others) reached few few_ended (so, h) =
       let s = first_stop j a in
-      let (why, end) = so.1 in
+      let why = so.1 in
+      let end = so.2 in
       let last : List Gap = record { trace = []; cause = why } ∷ [] in
       let left : s.prefix ∷ (prefixes_from j s.extensions ++ prefixes_from j others) ≡ prefixes_from j (a ∷ others) = ap (λ z. z ++ prefixes_from j others) (sym (stopped j a).are) in
       let none : later ≡ [] = none_later (reading (length seen) (ended_cases seen) [] [] []) later refl h in (

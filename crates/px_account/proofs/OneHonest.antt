@@ -14,6 +14,7 @@ use Rattle.px_solver.specs.declared.decision.Decision.TheVariants.{Found, Undeci
 use Rattle.px_solver.proofs.OneDecision.{one_decision}
 use Rattle.px_callgraph.specs.declared.states.State.{State}
 use Rattle.px_callgraph.specs.JobTree.{JobTree}
+use Rattle.px_callgraph.specs.Alternatives.{Leads}
 use Rattle.px_symexec.specs.Prefixes.{Prefix, Dead, Choice, Ended, Dropped, Past, stop_of, constraint}
 use Rattle.px_symexec.specs.Tables.{IsLive, Gives, Misses, IsRow}
 use Rattle.px_account.specs.declared.accounts.Point.{Point}
@@ -96,10 +97,10 @@ data Said (j : JobTree) (live ended : ℕ) (p : Prefix) (x : Point) : Type 0 whe
 
 said : (j : JobTree) (live ended : ℕ) (p : Prefix) (x : Point) → IsHonest j live ended p x → Said j live ended p x
 said j live ended p point.Dead h = dead refl h
-said j live ended p (point.Refuted n) h = refuted n refl h.0 h.1
+said j live ended p (point.Refuted n) h = refuted n refl h.0 (h.1, h.2)
 said j live ended p point.Branch h = goes h.0 h.1 h.2
-said j live ended p point.Entry h = goes h.0 h.1 h.2
-said j live ended p point.Drop h = goes h.0 h.1 h.2
+said j live ended p point.Entry h = goes h.0 h.1 (h.2, h.3)
+said j live ended p point.Drop h = goes h.0 h.1 (h.2, h.3)
 said j live ended p point.Beyond h = goes h.0 h.1 h.2
 said j live ended p point.Stop h = stop refl h.0 h.1 h.2
 

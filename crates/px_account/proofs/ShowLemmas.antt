@@ -172,7 +172,7 @@ module _ (j : JobTree) where
         | inr k ↦ k
       ]
 
-  reached_more : (a : Leads) (others : List Leads) → AreReached j (a ∷ others) → AreReached j ((first_stop j a).extensions ++ others)
+  pub reached_more : (a : Leads) (others : List Leads) → AreReached j (a ∷ others) → AreReached j ((first_stop j a).extensions ++ others)
   reached_more a others r = each_joined (first_stop j a).extensions others ((stopped j a).reached r.0) r.1
     where
       each_joined : (xs ys : List Leads) → AreReached j xs → AreReached j ys → AreReached j (xs ++ ys)

@@ -17,7 +17,7 @@ use Rattle.px_symexec.specs.Prefixes.{Prefix, Choice, Past, stop_of, constraint}
 use Rattle.px_symexec.specs.Tables.{Gives, Misses, IsRow, undecided}
 use Rattle.px_account.specs.declared.accounts.Point.{Point}
 use Rattle.px_account.specs.declared.accounts.Point.TheVariants as point
-use Rattle.px_account.specs.declared.left.BranchPoint.{BranchPoint}
+use Rattle.px_account.specs.declared.branch_points.BranchPoint.{BranchPoint}
 use Rattle.px_account.specs.declared.passing.Count.{Count}
 use Rattle.px_account.specs.declared.stops.Stop.{Stop}
 use Rattle.px_account.specs.Accounts.{IsEndAfter, IsBeforeEnd}
@@ -60,25 +60,24 @@ IsLivePoint j p _ = ⊥
 
 -- ---- going on
 
--- where a live prefix is counted there is room
-abbrev pub HasRoom : Count → Point → Type 0
-HasRoom c point.Branch = c.live < 4294967295
-HasRoom c point.Entry = (c.live < 4294967295) × (c.ended < 4294967295)
-HasRoom c point.Drop = (c.live < 4294967295) × (c.ended < 4294967295)
-HasRoom c point.Beyond = c.live < 4294967295
-HasRoom c point.Dead = ⊤
-HasRoom c (point.Refuted n) = ⊤
-HasRoom c point.Stop = ⊤
-
 -- the numbers after a point
-abbrev pub counted : Count → Point → Count
-counted c point.Branch = record { live = c.live + 1; ended = c.ended }
-counted c point.Entry = record { live = c.live + 1; ended = c.ended + 1 }
-counted c point.Drop = record { live = c.live + 1; ended = c.ended + 1 }
-counted c point.Beyond = record { live = c.live + 1; ended = c.ended }
-counted c point.Dead = c
-counted c (point.Refuted n) = c
-counted c point.Stop = c
+abbrev pub live_after : Point → ℕ → ℕ
+live_after point.Branch n = n + 1
+live_after point.Entry n = n + 1
+live_after point.Drop n = n + 1
+live_after point.Beyond n = n + 1
+live_after point.Dead n = n
+live_after (point.Refuted k) n = n
+live_after point.Stop n = n
+
+abbrev pub ended_after : Point → ℕ → ℕ
+ended_after point.Branch n = n
+ended_after point.Entry n = n + 1
+ended_after point.Drop n = n + 1
+ended_after point.Beyond n = n
+ended_after point.Dead n = n
+ended_after (point.Refuted k) n = n
+ended_after point.Stop n = n
 
 -- the places that it brings
 abbrev pub opened : JobTree → Stop → Point → List Leads
@@ -86,5 +85,6 @@ opened j stop point.Branch = extensions_of j stop
 opened j stop _ = []
 
 pub record IsPassed (j : JobTree) (stop : Stop) (p : Point) (old new : Count) (left left' : List BranchPoint) : Type 0 where
-  pub count : new ≡ counted old p
+  pub live : new.live ≡ live_after p old.live
+  pub ended : new.ended ≡ ended_after p old.ended
   pub places : places_of j left' ≡ opened j stop p ++ places_of j left

@@ -4,3 +4,4 @@ pub mod Stops
 pub mod Answers
 pub mod Apart
 pub mod Asks
+pub mod Audits

@@ -10,7 +10,7 @@ use Rattle.px_symexec.specs.Prefixes.{Prefix, Dead, Choice, Ended, Dropped, Past
 use Rattle.px_account.specs.declared.stops.Fork.{Fork}
 use Rattle.px_account.specs.declared.stops.Stop.{Stop}
 use Rattle.px_account.specs.declared.stops.Stop.TheVariants as S
-use Rattle.px_account.specs.declared.left.BranchPoint.{BranchPoint}
+use Rattle.px_account.specs.declared.branch_points.BranchPoint.{BranchPoint}
 use Rattle.px_account.specs.Accounts.{FirstStop, first_stop}
 
 -- where the path goes on, listed ways lead there from the start, and a solver may be asked

@@ -1,22 +1,15 @@
-ghost use Rattle.std.specs.Prelude.{◌≡◌, ◌≤◌, ◌<◌, ◌++◌, length, IfOk, OnOk};
+ghost use Rattle.std.specs.Prelude.{◌≡◌, ◌≤◌, ◌++◌, length, IfOk, OnOk};
 ghost use Rattle.px_base.specs.Bounds.{most_variables};
 ghost use Rattle.px_callgraph.specs.JobTree.{JobTree, job_tree};
 ghost use Rattle.px_walks.specs.Walks.{leads_of};
 ghost use Rattle.px_account.specs.Stops.{IsFork, AreForks, IsAdvanced, places_by, places_of};
 
+use crate::branch_points::BranchPoint;
 use crate::stops::Fork;
 use px_callgraph::{Job, StepOutcome};
 use px_terms::NoMemory;
 use px_walks::{Walk, act, copy_walk};
 use std::alloc::Global;
-
-// A point of choice whose ways from `next` on are still to be taken.
-#[derive(Drop)]
-pub(crate) struct BranchPoint<'a> {
-    pub(crate) fork: Fork<'a>,
-    pub(crate) next: usize,
-    ghost some: { next < length fork.ways.items },
-}
 
 // Puts a point of choice upon the others: all its places come first. One without ways has none.
 pub(crate) fn open<'a>(

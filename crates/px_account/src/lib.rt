@@ -3,10 +3,12 @@
 //! names the first point that isn't so.
 #![tactic(auto)]
 
-mod honest;
 mod accounts;
 mod asks;
+mod auditing;
+mod branch_points;
 mod constraints;
+mod honest;
 mod laws;
 mod left;
 mod looks;
@@ -14,6 +16,7 @@ mod passing;
 mod rows;
 mod stops;
 
-pub use honest::account;
 pub use accounts::{Account, Point};
+pub use auditing::{AuditFault, audit};
+pub use honest::account;
 pub use laws::{accounts_show, honest_accounts, one_audit, one_honest_account};

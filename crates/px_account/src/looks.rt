@@ -69,7 +69,10 @@ pub(crate) fn end_at(job: &Job, count: Count, stop: &Stop) -> Option<Cause>
 pub(crate) fn is_before_end(job: &Job, count: Count, stop: &Stop) -> bool
     ensures { result ≡ true ↔ IsBeforeEnd (job_tree job.now) count.live count.ended (prefix_of stop.now) }
 {
-    end_at(job, count, stop).is_none()
+    match end_at(job, count, stop) {
+        Some(_) => false,
+        None => true,
+    }
 }
 
 pub(crate) fn is_live(

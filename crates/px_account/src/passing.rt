@@ -1,10 +1,11 @@
-ghost use Rattle.std.specs.Prelude.{◌≡◌, ◌++◌, IfOk, OnOk};
+ghost use Rattle.std.specs.Prelude.{◌≡◌, ◌+◌, ◌++◌, IfOk, OnOk};
 ghost use Rattle.px_callgraph.specs.JobTree.{JobTree};
 ghost use Rattle.px_account.specs.Stops.{ForksRightly, AreForks, extensions_of, places_of};
-ghost use Rattle.px_account.specs.Answers.{IsPassed, HasRoom};
+ghost use Rattle.px_account.specs.Answers.{IsPassed};
 
 use crate::Point;
-use crate::left::{BranchPoint, open};
+use crate::branch_points::BranchPoint;
+use crate::left::open;
 use crate::stops::Stop;
 use px_terms::NoMemory;
 
@@ -33,27 +34,26 @@ pub(crate) fn pass<'a>(
     count: Count,
     points: &mut Vec<BranchPoint<'a>>,
 ) -> Result<Count, NoMemory>
-    requires room { HasRoom count point }
     ensures passed { IfOk result (λ new. (j : JobTree) → IsPassed j stop.entry point count new points.old.items points.new.items) }
     ensures forks { OnOk result ((j : JobTree) → ForksRightly j stop.entry → AreForks j points.old.items → AreForks j points.new.items) }
 {
-    let Count { live, ended } = count;
     match point {
         Point::Branch => {
             open_at(stop, points)?;
-            Ok(Count {
-                live: live + 1,
-                ended,
-            })
+            one_more(count, 0)
         }
-        Point::Beyond => Ok(Count {
-            live: live + 1,
-            ended,
-        }),
-        Point::Entry | Point::Drop => Ok(Count {
-            live: live + 1,
-            ended: ended + 1,
-        }),
+        Point::Beyond => one_more(count, 0),
+        Point::Entry | Point::Drop => one_more(count, 1),
         Point::Dead | Point::Refuted(_) | Point::Stop => Ok(count),
     }
+}
+
+// One live prefix more, which is so many ended cases. The numbers stay within those of the job, so both are small.
+fn one_more(count: Count, cases: u32) -> Result<Count, NoMemory>
+    ensures live { IfOk result (λ new. new.live ≡ count.live + 1) }
+    ensures ended { IfOk result (λ new. new.ended ≡ count.ended + cases) }
+{
+    let live = count.live.checked_add(1).ok_or(NoMemory)?;
+    let ended = count.ended.checked_add(cases).ok_or(NoMemory)?;
+    Ok(Count { live, ended })
 }

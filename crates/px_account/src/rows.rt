@@ -1,7 +1,7 @@
-ghost use Rattle.std.specs.Prelude.{◌≡◌, ◌↔◌, true, ℕ, All, length, IfOk};
+ghost use Rattle.std.specs.Prelude.{◌≡◌, ◌↔◌, ◌<◌, true, All, length, IfOk};
 ghost use Rattle.px_terms.specs.Valuations.{valuation_of};
-ghost use Rattle.px_terms.specs.Conjuncts.{IsTrueUnder, AreWellSorted};
-ghost use Rattle.px_terms.specs.declared.variables.VarInfo.{VarInfo as InfoOf};
+ghost use Rattle.px_terms.specs.Conjuncts.{IsTrueUnder};
+ghost use Rattle.px_terms.specs.Variables.{mentioned};
 ghost use Rattle.px_callgraph.specs.JobTree.{job_tree};
 ghost use Rattle.px_callgraph.specs.Laws.{IsAskable};
 ghost use Rattle.px_solver.specs.Decisions.{IsRefuted};
@@ -44,7 +44,7 @@ fn is_entry_but_values(
 
 // Whether values make conjuncts true.
 fn are_true(conjuncts: &[Conj], values: &[Value]) -> bool
-    requires { (vars : List InfoOf) × AreWellSorted vars conjuncts.now × (length values.now ≡ length vars) }
+    requires { All (λ c. All (λ x. x < length values.now) (mentioned c)) conjuncts.now }
     ensures { result ≡ true ↔ All (IsTrueUnder (valuation_of values.now)) conjuncts.now }
 {
     for i in 0..conjuncts.len() {
