@@ -1,5 +1,5 @@
 -- Which conjuncts are refuted, of those that come first.
-use Rattle.std.proofs.Common.{◌≡◌, ◌↔◌, ℕ, zero, suc, ◌+◌, ◌<◌, ◌≤◌, Bool, true, false, not, List, [], ◌∷◌, length, take, refl, sym, ◌∙◌, ap, subst, arith, inl, inr, append-nil, Option, Some, None}
+use Rattle.std.proofs.Common.{◌≡◌, ◌↔◌, ℕ, zero, suc, ◌+◌, ◌-◌, ◌/◌, ◌<◌, ◌≤◌, Bool, true, false, not, List, [], ◌∷◌, length, take, refl, sym, ◌∙◌, ap, subst, arith, inl, inr, append-nil, Option, Some, None}
 use Rattle.std.specs.Prelude.{All, Contains, Result, Ok, Err, IfOk}
 use Rattle.std.proofs.lemmas.Bool.{cases_lt}
 use Rattle.px_terms.specs.Conjuncts.{IsWellSorted, AreWellSorted}
@@ -81,6 +81,12 @@ between_above vars cs kinds low middle high m n b = record {
   refuted = b.refuted;
   fewer = λ k l r. n (refuted_more vars cs kinds k middle (omega (arith, l)) r);
 }
+
+pub half_above : (low high : ℕ) → low < high → low ≤ low + (high - low) / 2
+half_above low high l = omega arith
+
+pub half_below : (low high : ℕ) → low < high → low + (high - low) / 2 < high
+half_below low high l = omega (arith, l)
 
 pub between_least : (vars : List VarInfo) (cs : List Conj) (kinds : List ℕ) (low high : ℕ) → high ≤ low → IsBetween vars cs kinds low high → IsLeast vars cs kinds high
 between_least vars cs kinds low high h b = (b.refuted, λ k l. b.fewer k (omega (arith, l, h)))

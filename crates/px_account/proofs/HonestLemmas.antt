@@ -260,7 +260,7 @@ module _ (j : JobTree) where
   tabled (point.Dead ∷ later) seen (a ∷ others) reached few few_ended (so, h) =
       tabled_gone (point.Dead ∷ later) later seen a others reached.0 (dead_isnt_live j.kinds (first_stop j a).prefix so) (λ xs gaps k. (so, k)) (tabled later seen others reached.1 few few_ended h)
   tabled (point.Refuted n ∷ later) seen (a ∷ others) reached few few_ended (so, h) =
-      tabled_gone (point.Refuted n ∷ later) later seen a others reached.0 (refuted_isnt_live j.kinds (first_stop j a).prefix n so.1) (λ xs gaps k. ((so.0, so.1), k))
+      tabled_gone (point.Refuted n ∷ later) later seen a others reached.0 (refuted_isnt_live j.kinds (first_stop j a).prefix n so.1.0) (λ xs gaps k. ((so.0, so.1.0), k))
       (tabled later seen others reached.1 few few_ended h)
   tabled (point.Branch ∷ later) seen (a ∷ others) reached few few_ended (so, h) =
       let s = first_stop j a in

@@ -11,3 +11,5 @@ pub mod PassLemmas
 pub mod AccountLoop
 pub mod AuditLoop
 pub mod RowLemmas
+pub mod TestLemmas
+pub mod PointLemmas

@@ -97,7 +97,7 @@ data Said (j : JobTree) (live ended : ℕ) (p : Prefix) (x : Point) : Type 0 whe
 
 said : (j : JobTree) (live ended : ℕ) (p : Prefix) (x : Point) → IsHonest j live ended p x → Said j live ended p x
 said j live ended p point.Dead h = dead refl h
-said j live ended p (point.Refuted n) h = refuted n refl h.0 (h.1, h.2)
+said j live ended p (point.Refuted n) h = refuted n refl h.0 h.1
 said j live ended p point.Branch h = goes h.0 h.1 h.2
 said j live ended p point.Entry h = goes h.0 h.1 (h.2, h.3)
 said j live ended p point.Drop h = goes h.0 h.1 (h.2, h.3)

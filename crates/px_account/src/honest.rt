@@ -49,6 +49,18 @@ fn live_point(alloc: Global, job: &Job, stop: &Stop) -> Result<Point, NoMemory>
     }
 }
 
+// What is said of a live prefix.
+fn open_point(alloc: Global, job: &Job, stop: &Stop, count: Count) -> Result<Point, NoMemory>
+    requires askable { IsAskable (stop_of (prefix_of stop.now)) }
+    requires live { IsLive job.now.kinds (prefix_of stop.now) }
+    ensures { IfOk result (λ p. IsHonest (job_tree job.now) count.live count.ended (prefix_of stop.now) p) }
+{
+    match end_at(job, count, stop) {
+        Some(_) => Ok(Point::Stop),
+        None => live_point(alloc, job, stop),
+    }
+}
+
 // What an honest account says of a prefix.
 fn honest_point(
     alloc: Global,
@@ -66,13 +78,10 @@ fn honest_point(
     if is_dead(stop) {
         return Ok(Point::Dead);
     }
-    if let Some(n) = least_refuted(alloc, job, state_at(stop), domains)? {
-        return Ok(Point::Refuted(n));
+    match least_refuted(alloc, job, state_at(stop), domains)? {
+        Some(n) => Ok(Point::Refuted(n)),
+        None => open_point(alloc, job, stop, count),
     }
-    if let Some(_) = end_at(job, count, stop) {
-        return Ok(Point::Stop);
-    }
-    live_point(alloc, job, stop)
 }
 
 /// The honest account of a job, which is that of its table.
