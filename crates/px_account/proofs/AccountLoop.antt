@@ -12,12 +12,12 @@ use Rattle.px_account.specs.declared.stops.Stop.{Stop}
 use Rattle.px_account.specs.declared.branch_points.BranchPoint.{BranchPoint}
 use Rattle.px_account.specs.Accounts.{FirstStop, first_stop, Reading, after, whole, ReadsHonestly, IsHonest}
 use Rattle.px_account.specs.Stops.{Stands, prefix_of, extensions_of, ForksRightly, AreForks, places_of, IsStop, IsAdvanced}
-use Rattle.px_account.specs.Answers.{IsPassed}
+use Rattle.px_account.specs.Answers.{IsPassed, entries_after, drops_after}
 use Rattle.px_account.proofs.FirstStops.{prefixes_from}
 use Rattle.px_account.proofs.HonestLemmas.{reading}
 use Rattle.px_account.proofs.StandLemmas.{stands_start}
 use Rattle.px_account.proofs.LeftLemmas.{places_push, forks_pop}
-use Rattle.px_account.proofs.PassLemmas.{entries_left, drops_left, passed, fewer}
+use Rattle.px_account.proofs.PassLemmas.{passed, fewer}
 
 -- beside no table
 abbrev pub begins : JobTree → Reading
@@ -65,10 +65,10 @@ module _ (j : JobTree) (points : List Point) (old : Count) (a : Leads) (left : L
   told_end e = told_all (subst (λ z. ReadsHonestly j (after j (is_left old (a ∷ places_of j left)) z) []) (sym e) (refl, refl, refl))
 
   module _ (goes : ¬ (p ≡ point.Stop)) (new : Count) (more : List BranchPoint) (h : IsPassed j stop p old new left more) where
-    none_met : entries_left p [] ≡ []
+    none_met : entries_after p [] ≡ []
     none_met = by p
       where
-        by : (p : Point) → entries_left p [] ≡ []
+        by : (p : Point) → entries_after p [] ≡ []
         by point.Branch = refl
         by point.Entry = refl
         by point.Drop = refl
@@ -77,10 +77,10 @@ module _ (j : JobTree) (points : List Point) (old : Count) (a : Leads) (left : L
         by (point.Refuted k) = refl
         by point.Stop = refl
 
-    none_missed : drops_left p [] ≡ []
+    none_missed : drops_after p [] ≡ []
     none_missed = by p
       where
-        by : (p : Point) → drops_left p [] ≡ []
+        by : (p : Point) → drops_after p [] ≡ []
         by point.Branch = refl
         by point.Entry = refl
         by point.Drop = refl
@@ -92,7 +92,7 @@ module _ (j : JobTree) (points : List Point) (old : Count) (a : Leads) (left : L
     is_after : after j (is_left old (a ∷ places_of j left)) p ≡ is_left new (places_of j more)
     is_after =
         passed j a stop at.is p goes old new left more [] [] h
-        ∙ ap (λ z. reading new.live new.ended (places_of j more) z (drops_left p [])) none_met ∙ ap (λ z. reading new.live new.ended (places_of j more) [] z) none_missed
+        ∙ ap (λ z. reading new.live new.ended (places_of j more) z (drops_after p [])) none_met ∙ ap (λ z. reading new.live new.ended (places_of j more) [] z) none_missed
 
     -- nothing is left
     pub told_last : more ≡ [] → ReadsHonestly j (begins j) (points ++ p ∷ [])

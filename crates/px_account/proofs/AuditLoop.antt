@@ -8,6 +8,7 @@ use Rattle.px_entry.specs.declared.tables.Table.{Table}
 use Rattle.px_callgraph.specs.JobTree.{JobTree}
 use Rattle.px_callgraph.specs.declared.outcomes.StepOutcome.TheVariants.{Next}
 use Rattle.px_callgraph.specs.Alternatives.{Walk, Leads, start}
+use Rattle.px_symexec.specs.Prefixes.{Prefix}
 use Rattle.px_account.specs.declared.accounts.Point.{Point}
 use Rattle.px_account.specs.declared.accounts.Point.TheVariants as point
 use Rattle.px_account.specs.declared.passing.Count.{Count}
@@ -15,12 +16,12 @@ use Rattle.px_account.specs.declared.stops.Stop.{Stop}
 use Rattle.px_account.specs.declared.branch_points.BranchPoint.{BranchPoint}
 use Rattle.px_account.specs.Accounts.{FirstStop, first_stop, First, Reading, after, IsOver, whole, Reads, FailsAt, IsSo, IsSoNext}
 use Rattle.px_account.specs.Stops.{Stands, prefix_of, extensions_of, AreForks, places_of, IsStop, IsAdvanced}
-use Rattle.px_account.specs.Answers.{IsPassed}
-use Rattle.px_account.specs.Audits.{IsFault}
+use Rattle.px_account.specs.Answers.{IsPassed, entries_after, drops_after}
+use Rattle.px_account.specs.Audits.{IsFault, unless}
 use Rattle.px_account.proofs.HonestLemmas.{reading}
 use Rattle.px_account.proofs.StandLemmas.{stands_start}
 use Rattle.px_account.proofs.LeftLemmas.{places_push, forks_pop}
-use Rattle.px_account.proofs.PassLemmas.{entries_left, drops_left, passed}
+use Rattle.px_account.proofs.PassLemmas.{passed}
 
 -- a place after so many points
 abbrev pub later_by : ℕ → Option ℕ → Option ℕ
@@ -74,6 +75,17 @@ too_few j t points i c xs gaps a left u l e =
 
 -- ---- one point
 
+-- what is said of a prefix doesn't depend on the places that are left
+pub so_at : (j : JobTree) (q : Prefix) (p : Point) (later : List Point) (live ended : ℕ) (places others : List Leads) (xs : List Entry) (gaps : List Gap) →
+    IsSo j (reading live ended places xs gaps) q p later → IsSo j (reading live ended others xs gaps) q p later
+so_at j q point.Branch later live ended places others xs gaps h = h
+so_at j q point.Entry later live ended places others xs gaps h = h
+so_at j q point.Drop later live ended places others xs gaps h = h
+so_at j q point.Beyond later live ended places others xs gaps h = h
+so_at j q point.Dead later live ended places others xs gaps h = h
+so_at j q (point.Refuted n) later live ended places others xs gaps h = h
+so_at j q point.Stop later live ended places others xs gaps h = h
+
 module _ (j : JobTree) (t : Table) (points : List Point) (i : ℕ) (old : Count) (xs : List Entry) (gaps : List Gap) (a : Leads) (left : List BranchPoint) (u : IsAuditing j t points i old xs gaps a left)
     (stop : Stop) (at : IsStop j a stop) (p : Point) (later : List Point) (here : drop i points ≡ p ∷ later) where
   abbrev Here : Reading
@@ -120,7 +132,8 @@ module _ (j : JobTree) (t : Table) (points : List Point) (i : ℕ) (old : Count)
   long_take : (gaps : List Gap) → take (length gaps - 1) gaps ≡ [] → length gaps ≤ 1
   long_take [] e = omega arith
   long_take (g ∷ []) e = omega arith
-  long_take (g ∷ h ∷ gaps) e = absurd (some g (take (length gaps) (h ∷ gaps)) e)
+  long_take (g ∷ h ∷ gaps) e =
+      let n : length (g ∷ h ∷ gaps) - 1 ≡ suc (length gaps) = omega arith in absurd (some g (take (length gaps) (h ∷ gaps)) (subst (λ z. take z (g ∷ h ∷ gaps) ≡ []) n e))
     where
       some : (x : Gap) (ys : List Gap) → x ∷ ys ≡ [] → ⊥
       some x ys f = cc
@@ -134,23 +147,31 @@ module _ (j : JobTree) (t : Table) (points : List Point) (i : ℕ) (old : Count)
       fails_after so (subst (λ z. (after j Here z).places ≡ []) (sym e) refl)
       (λ none over. let over' : IsOver (after j Here point.Stop) = subst (λ z. IsOver (after j Here z)) e over in n (over'.1, long_take gaps over'.2))
 
+  pub ends_by : p ≡ point.Stop → IsSo j Here (prefix_of stop) p later → (b : Bool) → (b ≡ true ↔ (xs ≡ []) × (length gaps ≤ 1)) → IsFault j (whole j t) points (unless b (i + 1))
+  ends_by e so true h = let k = h.0 refl in ends_all e so k.0 k.1
+  ends_by e so false h = ends_with_more e so (λ k. never_both false (h.1 k) refl)
+
   -- ---- before it
 
   module _ (goes : ¬ (p ≡ point.Stop)) (so : IsSo j Here (prefix_of stop) p later) (new : Count) (more : List BranchPoint) (h : IsPassed j stop p old new left more) where
     abbrev There : List Leads → Reading
-    There places = reading new.live new.ended places (entries_left p xs) (drops_left p gaps)
+    There places = reading new.live new.ended places (entries_after p xs) (drops_after p gaps)
 
     is_after : after j Here p ≡ There (places_of j more)
     is_after = passed j a stop at.is p goes old new left more xs gaps h
 
     -- nothing is left to follow
-    pub is_read : more ≡ [] → later ≡ [] → entries_left p xs ≡ [] → drops_left p gaps ≡ [] → IsFault j (whole j t) points None
+    pub is_read : more ≡ [] → later ≡ [] → entries_after p xs ≡ [] → drops_after p gaps ≡ [] → IsFault j (whole j t) points None
     is_read e none ex eg = is_all so none (subst IsOver (sym is_after) (ap (places_of j) e, ex, eg))
 
-    pub isnt_read : more ≡ [] → ((later ≡ []) × (entries_left p xs ≡ []) × (drops_left p gaps ≡ []) → ⊥) → IsFault j (whole j t) points (Some (i + 1))
+    pub isnt_read : more ≡ [] → ((later ≡ []) × (entries_after p xs ≡ []) × (drops_after p gaps ≡ []) → ⊥) → IsFault j (whole j t) points (Some (i + 1))
     isnt_read e n =
         fails_after so (subst (λ (r : Reading). r.places ≡ []) (sym is_after) (ap (places_of j) e))
         (λ none over. let over' : IsOver (There (places_of j more)) = subst IsOver is_after over in n (none, over'.1, over'.2))
+
+    pub read_by : more ≡ [] → (b : Bool) → (b ≡ true ↔ (later ≡ []) × (entries_after p xs ≡ []) × (drops_after p gaps ≡ [])) → IsFault j (whole j t) points (unless b (i + 1))
+    read_by e true h = let k = h.0 refl in is_read e k.0 k.1 k.2
+    read_by e false h = isnt_read e (λ k. never_both false (h.1 k) refl)
 
     one_later : (o : Option ℕ) → IsFault j (after j Here p) later o → IsFault j (whole j t) points (later_by (i + 1) o)
     one_later None k = answers None (so_there Here so, k)
@@ -158,7 +179,7 @@ module _ (j : JobTree) (t : Table) (points : List Point) (i : ℕ) (old : Count)
 
     -- the next place is followed
     pub goes_on : (rest again : List BranchPoint) (f : BranchPoint) (b : Leads) → AreForks j more → more ≡ rest ++ f ∷ [] → IsAdvanced j f rest again b → later ≡ drop (i + 1) points →
-        IsAuditing j t points (i + 1) new (entries_left p xs) (drops_left p gaps) b again
+        IsAuditing j t points (i + 1) new (entries_after p xs) (drops_after p gaps) b again
     goes_on rest again f b forks e d s =
         let same : b ∷ places_of j again ≡ places_of j more = d.left ∙ sym (ap (places_of j) e ∙ places_push j rest f) in record {
           stands = d.stands;

@@ -314,8 +314,7 @@ module _ (j : JobTree) where
         [],
         last,
         subst (λ z. Finishes j seen z [] last) left (finishes_there seen (prefixes_from j s.extensions ++ prefixes_from j others) s.prefix why few few_ended so.0 end),
-        (so.0, (why, end, [], refl), none),
-        subst (Reads j (reading (length seen) (ended_cases seen) [] [] [])) (sym none) (refl, refl, refl),
+        ((so.0, (why, end, [], refl), none), subst (Reads j (reading (length seen) (ended_cases seen) [] [] [])) (sym none) (refl, refl, refl)),
       )
 
   -- ---- the whole

@@ -17,38 +17,30 @@ use Rattle.px_account.specs.declared.stops.Stop.{Stop}
 use Rattle.px_account.specs.declared.branch_points.BranchPoint.{BranchPoint}
 use Rattle.px_account.specs.Accounts.{FirstStop, first_stop, Reading, after, IsDead}
 use Rattle.px_account.specs.Stops.{prefix_of, extensions_of, places_of, IsStop}
-use Rattle.px_account.specs.Answers.{live_after, ended_after, opened, IsPassed}
+use Rattle.px_account.specs.Answers.{live_after, ended_after, opened, IsPassed, entries_after, drops_after}
 use Rattle.px_account.proofs.FirstStops.{prefixes_from, Stopped, stopped}
 use Rattle.px_account.proofs.HonestLemmas.{reading}
 
 -- ---- what is live
 
+not_of : {P : Type 0} (b : Bool) → (b ≡ true ↔ P) → (not b ≡ true ↔ (¬ P))
+not_of true h = (λ e. absurd (never_both false e refl), λ k. absurd (k (h.0 refl)))
+not_of false h = (λ e p. never_both false (h.1 p) refl, λ k. refl)
+
 pub live_by : (kinds : List ℕ) (p : Prefix) (b : Bool) → ¬ IsDead p → (b ≡ true ↔ IsRefuted (stop_of p).vars (constraint (stop_of p)) kinds) → (not b ≡ true ↔ IsLive kinds p)
 live_by kinds (Dead s) b n h = absurd (n tt)
-live_by kinds (Choice s) b n h = live_of b h
-  where
-    live_of : {P : Type 0} (b : Bool) → (b ≡ true ↔ P) → (not b ≡ true ↔ (¬ P))
-    live_of true h = (λ e. absurd (let f : false ≡ true = e in let g : ⊥ = cc in g), λ k. absurd (k (h.0 refl)))
-    live_of false h = (λ e p. absurd (let f : false ≡ true = h.1 p in let g : ⊥ = cc in g), λ k. refl)
-live_by kinds (Ended s exit result) b n h = live_by kinds (Choice s) b (λ k. k) h
-live_by kinds (Dropped s gap) b n h = live_by kinds (Choice s) b (λ k. k) h
-live_by kinds (Past s) b n h = live_by kinds (Choice s) b (λ k. k) h
+live_by kinds (Choice s) b n h = not_of b h
+live_by kinds (Ended s exit result) b n h = not_of b h
+live_by kinds (Dropped s gap) b n h = not_of b h
+live_by kinds (Past s) b n h = not_of b h
 
 -- ---- what is left
-
-abbrev pub entries_left : Point → List Entry → List Entry
-entries_left point.Entry xs = drop 1 xs
-entries_left _ xs = xs
-
-abbrev pub drops_left : Point → List Gap → List Gap
-drops_left point.Drop gaps = drop 1 gaps
-drops_left _ gaps = gaps
 
 module _ (j : JobTree) (a : Leads) (stop : Stop) (is : first_stop j a ≡ record { prefix = prefix_of stop; extensions = extensions_of j stop }) where
   abbrev Goes : Point → Type 0
   Goes p =
       (live ended : ℕ) (others : List Leads) (xs : List Entry) (gaps : List Gap) →
-      after j (reading live ended (a ∷ others) xs gaps) p ≡ reading (live_after p live) (ended_after p ended) (opened j stop p ++ others) (entries_left p xs) (drops_left p gaps)
+      after j (reading live ended (a ∷ others) xs gaps) p ≡ reading (live_after p live) (ended_after p ended) (opened j stop p ++ others) (entries_after p xs) (drops_after p gaps)
 
   passed_by : (p : Point) → ¬ (p ≡ point.Stop) → Goes p
   passed_by point.Branch n live ended others xs gaps = ap (λ (s : FirstStop). reading (live + 1) ended (s.extensions ++ others) xs gaps) is
@@ -61,23 +53,23 @@ module _ (j : JobTree) (a : Leads) (stop : Stop) (is : first_stop j a ≡ record
 
   -- what is left after a point, as the code has it
   pub passed : (p : Point) → ¬ (p ≡ point.Stop) → (old new : Count) (left more : List BranchPoint) (xs : List Entry) (gaps : List Gap) → IsPassed j stop p old new left more →
-      after j (reading old.live old.ended (a ∷ places_of j left) xs gaps) p ≡ reading new.live new.ended (places_of j more) (entries_left p xs) (drops_left p gaps)
+      after j (reading old.live old.ended (a ∷ places_of j left) xs gaps) p ≡ reading new.live new.ended (places_of j more) (entries_after p xs) (drops_after p gaps)
   passed p n old new left more xs gaps h =
       passed_by p n old.live old.ended (places_of j left) xs gaps
-      ∙ ap (λ z. reading z (ended_after p old.ended) (opened j stop p ++ places_of j left) (entries_left p xs) (drops_left p gaps)) (sym h.live)
-      ∙ ap (λ z. reading new.live z (opened j stop p ++ places_of j left) (entries_left p xs) (drops_left p gaps)) (sym h.ended)
-      ∙ ap (λ z. reading new.live new.ended z (entries_left p xs) (drops_left p gaps)) (sym h.places)
+      ∙ ap (λ z. reading z (ended_after p old.ended) (opened j stop p ++ places_of j left) (entries_after p xs) (drops_after p gaps)) (sym h.live)
+      ∙ ap (λ z. reading new.live z (opened j stop p ++ places_of j left) (entries_after p xs) (drops_after p gaps)) (sym h.ended)
+      ∙ ap (λ z. reading new.live new.ended z (entries_after p xs) (drops_after p gaps)) (sym h.places)
 
   -- fewer prefixes are left
   pub fewer : (p : Point) (old new : Count) (left more : List BranchPoint) → IsPassed j stop p old new left more → length (prefixes_from j (places_of j more)) < length (prefixes_from j (a ∷ places_of j left))
   fewer p old new left more h =
       let here : prefixes j a ≡ prefix_of stop ∷ prefixes_from j (extensions_of j stop) = (stopped j a).are ∙ ap (λ (s : FirstStop). s.prefix ∷ prefixes_from j s.extensions) is in
-      let n : length (prefixes_from j (a ∷ places_of j left)) ≡ suc (length (prefixes_from j (extensions_of j stop)) + length (prefixes_from j (places_of j left))) =
-      length-append (prefixes j a) (prefixes_from j (places_of j left)) ∙ ap (λ z. length z + length (prefixes_from j (places_of j left))) here in
+      let n : length (prefixes_from j (a ∷ places_of j left)) ≡ length (prefixes j a) + length (prefixes_from j (places_of j left)) = length-append (prefixes j a) (prefixes_from j (places_of j left)) in
+      let k : length (prefixes j a) ≡ suc (length (prefixes_from j (extensions_of j stop))) = ap length here in
       let m : length (prefixes_from j (places_of j more)) ≡ length (prefixes_from j (opened j stop p)) + length (prefixes_from j (places_of j left)) =
       ap (λ z. length (prefixes_from j z)) h.places ∙ ap length (flat_map-append (prefixes j) (opened j stop p) (places_of j left)) ∙ length-append (prefixes_from j (opened j stop p)) (prefixes_from j (places_of j left)) in
       let l = few_opened p in
-      omega (arith, n, m, l)
+      omega (arith, n, k, m, l)
     where
       few_opened : (p : Point) → length (prefixes_from j (opened j stop p)) ≤ length (prefixes_from j (extensions_of j stop))
       few_opened point.Branch = omega arith

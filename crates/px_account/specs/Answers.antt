@@ -1,5 +1,5 @@
 -- What is found out of one prefix, and how an account goes on from it.
-use Rattle.std.specs.Prelude.{◌≡◌, ℕ, ◌+◌, ◌<◌, List, [], ◌∷◌, ◌++◌, length, All, Option, Some, None, ⊤}
+use Rattle.std.specs.Prelude.{◌≡◌, ℕ, ◌+◌, ◌<◌, List, [], ◌∷◌, ◌++◌, drop, All, Option, Some, None, ⊤}
 use Rattle.px_terms.specs.Valuations.{valuation_of, FitTogether}
 use Rattle.px_terms.specs.Conjuncts.{IsTrueUnder}
 use Rattle.px_terms.specs.declared.types.Value.{Value}
@@ -88,3 +88,12 @@ pub record IsPassed (j : JobTree) (stop : Stop) (p : Point) (old new : Count) (l
   pub live : new.live ≡ live_after p old.live
   pub ended : new.ended ≡ ended_after p old.ended
   pub places : places_of j left' ≡ opened j stop p ++ places_of j left
+
+-- the entries and the drops that aren't met after it
+abbrev pub entries_after : Point → List Entry → List Entry
+entries_after point.Entry xs = drop 1 xs
+entries_after _ xs = xs
+
+abbrev pub drops_after : Point → List Gap → List Gap
+drops_after point.Drop gaps = drop 1 gaps
+drops_after _ gaps = gaps

@@ -1,6 +1,5 @@
 -- What an audit answers, and what of the table it hasn't met.
-use Rattle.std.specs.Prelude.{ℕ, List, [], map, drop, Option, Some, None, Result, Ok, Err, ⊤}
-use Rattle.px_entry.specs.declared.entries.Entry.{Entry}
+use Rattle.std.specs.Prelude.{ℕ, Bool, true, false, List, [], map, Option, Some, None, Result, Ok, Err, ⊤}
 use Rattle.px_entry.specs.declared.tables.Gap.{Gap}
 use Rattle.px_entry.specs.declared.tables.Table.{Table}
 use Rattle.px_callgraph.specs.JobTree.{JobTree}
@@ -8,7 +7,6 @@ use Rattle.px_callgraph.specs.Alternatives.{Leads}
 use Rattle.px_check.specs.declared.checked.Checked.{Checked}
 use Rattle.px_check.specs.Answers.{entry_of}
 use Rattle.px_account.specs.declared.accounts.Point.{Point}
-use Rattle.px_account.specs.declared.accounts.Point.TheVariants as point
 use Rattle.px_account.specs.declared.accounts.Account.{Account}
 use Rattle.px_account.specs.declared.auditing.AuditFault.{AuditFault}
 use Rattle.px_account.specs.declared.auditing.AuditFault.TheVariants.{Wrong, NoMemory}
@@ -25,6 +23,11 @@ abbrev pub IsFault : JobTree → Reading → List Point → Option ℕ → Type 
 IsFault j r points None = Reads j r points
 IsFault j r points (Some i) = FailsAt j r points i
 
+-- this number, unless all is done
+abbrev pub unless : Bool → ℕ → Option ℕ
+unless true n = None
+unless false n = Some n
+
 -- the account accounts for the table, or the point that fails first is named
 abbrev pub IsAudit : JobTree → Table → Account → Result (Unit {0}) AuditFault → Type 0
 IsAudit j table account (Ok u) = AccountsFor j table account
@@ -32,15 +35,6 @@ IsAudit j table account (Err (Wrong i)) = FailsAt j (whole j table) account.poin
 IsAudit j table account (Err NoMemory) = ⊤
 
 -- ---- what isn't met
-
--- the entries and the drops that aren't met after it
-abbrev pub entries_after : Point → List Entry → List Entry
-entries_after point.Entry xs = drop 1 xs
-entries_after _ xs = xs
-
-abbrev pub drops_after : Point → List Gap → List Gap
-drops_after point.Drop gaps = drop 1 gaps
-drops_after _ gaps = gaps
 
 -- what an audit has read to, where these places are left
 abbrev pub reading_of : Told → List Leads → Reading

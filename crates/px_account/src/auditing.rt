@@ -8,8 +8,8 @@ ghost use Rattle.px_symexec.specs.Tables.{IsLive, Misses, IsRow};
 ghost use Rattle.px_check.specs.Answers.{entry_of};
 ghost use Rattle.px_account.specs.Accounts.{First, IsEntryAt, IsBeforeEnd, IsEndOf, IsSo, whole};
 ghost use Rattle.px_account.specs.Stops.{prefix_of};
-ghost use Rattle.px_account.specs.Answers.{IsEndWith};
-ghost use Rattle.px_account.specs.Audits.{IsAudit, IsFault, entries_after, drops_after, table_of, told_of};
+ghost use Rattle.px_account.specs.Answers.{IsEndWith, drops_after, entries_after};
+ghost use Rattle.px_account.specs.Audits.{IsAudit, IsFault, table_of, told_of, unless};
 
 use crate::asks::is_refuted_by;
 use crate::left::advance;
@@ -104,7 +104,7 @@ fn ends_with(drops: &[Gap], cause: &Cause) -> bool
 
 // Whether a prefix is the end, and the last drop says so.
 fn is_end(job: &Job, stop: &Stop, told: Told) -> bool
-    ensures { result ≡ true ↔ IsEndOf (job_tree job.now) (told_of told) (prefix_of stop.now) }
+    ensures { result ≡ true ↔ IsEndOf (job_tree job.now) (told_of told.entry) (prefix_of stop.now) }
 {
     match end_at(job, told.count, stop) {
         Some(cause) => ends_with(told.drops, &cause),
@@ -122,7 +122,7 @@ fn is_live_end(
 ) -> Result<bool, NoMemory>
     requires askable { IsAskable (stop_of (prefix_of stop.now)) }
     requires kinds { map (λ b. number b) domains.old.items ≡ job.now.kinds }
-    ensures answer { IfOk result (λ yes. yes ≡ true ↔ IsLive job.now.kinds (prefix_of stop.now) × IsEndOf (job_tree job.now) (told_of told) (prefix_of stop.now)) }
+    ensures answer { IfOk result (λ yes. yes ≡ true ↔ IsLive job.now.kinds (prefix_of stop.now) × IsEndOf (job_tree job.now) (told_of told.entry) (prefix_of stop.now)) }
     ensures held { (cs : List ConjOf) → All (λ b. holds b cs) domains.old.items → All (λ b. holds b cs) domains.new.items }
     ensures kinds { map (λ b. number b) domains.new.items ≡ map (λ b. number b) domains.old.items }
 {
@@ -142,7 +142,7 @@ fn is_open_drop(
 ) -> Result<bool, NoMemory>
     requires askable { IsAskable (stop_of (prefix_of stop.now)) }
     requires kinds { map (λ b. number b) domains.old.items ≡ job.now.kinds }
-    ensures answer { IfOk result (λ yes. yes ≡ true ↔ IsSo (job_tree job.now) (told_of told) (prefix_of stop.now) Point.Drop []) }
+    ensures answer { IfOk result (λ yes. yes ≡ true ↔ IsSo (job_tree job.now) (told_of told.entry) (prefix_of stop.now) Point.Drop []) }
     ensures held { (cs : List ConjOf) → All (λ b. holds b cs) domains.old.items → All (λ b. holds b cs) domains.new.items }
     ensures kinds { map (λ b. number b) domains.new.items ≡ map (λ b. number b) domains.old.items }
 {
@@ -164,7 +164,7 @@ fn is_so(
 ) -> Result<bool, NoMemory>
     requires askable { IsAskable (stop_of (prefix_of stop.now)) }
     requires kinds { map (λ b. number b) domains.old.items ≡ job.now.kinds }
-    ensures answer { IfOk result (λ yes. yes ≡ true ↔ IsSo (job_tree job.now) (told_of told) (prefix_of stop.now) point later.now) }
+    ensures answer { IfOk result (λ yes. yes ≡ true ↔ IsSo (job_tree job.now) (told_of told.entry) (prefix_of stop.now) point later.now) }
     ensures held { (cs : List ConjOf) → All (λ b. holds b cs) domains.old.items → All (λ b. holds b cs) domains.new.items }
     ensures kinds { map (λ b. number b) domains.new.items ≡ map (λ b. number b) domains.old.items }
 {
@@ -209,8 +209,8 @@ fn is_so(
 // What of the table isn't met after a point, which isn't `Stop`.
 fn meet<'b>(told: Told<'b>, count: Count, point: Point) -> Told<'b>
     ensures count { result.count ≡ count }
-    ensures entries { map entry_of result.entries.now ≡ entries_after point (map entry_of told.entries.now) }
-    ensures drops { result.drops.now ≡ drops_after point told.drops.now }
+    ensures entries { map entry_of result.entries.now ≡ entries_after point (map entry_of told.entry.entries.now) }
+    ensures drops { result.drops.now ≡ drops_after point told.entry.drops.now }
 {
     let Told { entries, drops, .. } = told;
     match point {
@@ -244,16 +244,23 @@ fn without_first<T>(items: &[T]) -> &[T]
 
 // Where nothing is left to follow, whether no point is left and nothing of the table.
 fn is_over(later: &[Point], told: Told) -> bool
-    ensures { result ≡ true ↔ (later.now ≡ []) × (told.entries.now ≡ []) × (told.drops.now ≡ []) }
+    ensures { result ≡ true ↔ (later.now ≡ []) × (map entry_of told.entry.entries.now ≡ []) × (told.entry.drops.now ≡ []) }
 {
     later.is_empty() && told.entries.is_empty() && told.drops.is_empty()
 }
 
 // At the end, whether the last drop is the only one, and no entry is left.
 fn is_used_up(told: Told) -> bool
-    ensures { result ≡ true ↔ (told.entries.now ≡ []) × (length told.drops.now ≤ 1) }
+    ensures { result ≡ true ↔ (map entry_of told.entry.entries.now ≡ []) × (length told.entry.drops.now ≤ 1) }
 {
     told.entries.is_empty() && told.drops.len() <= 1
+}
+
+// This number, unless all is done.
+fn unless(done: bool, number: usize) -> Option<usize>
+    ensures { result ≡ unless done number }
+{
+    if done { None } else { Some(number) }
 }
 
 // The place of the first point that isn't so, or their number where each is and something is left; None where the
@@ -288,12 +295,12 @@ fn first_wrong(
             return Ok(Some(i));
         }
         if let Point::Stop = point {
-            return Ok(if is_used_up(told) { None } else { Some(i + 1) });
+            return Ok(unless(is_used_up(told), i + 1));
         }
         let count = pass(stop, point, told.count, &mut left)?;
         told = meet(told, count, point);
         let Some(next) = left.pop() else {
-            return Ok(if is_over(later, told) { None } else { Some(i + 1) });
+            return Ok(unless(is_over(later, told), i + 1));
         };
         from = advance(alloc, job, next, &mut left)?;
     }

@@ -55,10 +55,10 @@ fn open_point(alloc: Global, job: &Job, stop: &Stop, count: Count) -> Result<Poi
     requires live { IsLive job.now.kinds (prefix_of stop.now) }
     ensures { IfOk result (λ p. IsHonest (job_tree job.now) count.live count.ended (prefix_of stop.now) p) }
 {
-    match end_at(job, count, stop) {
-        Some(_) => Ok(Point::Stop),
-        None => live_point(alloc, job, stop),
+    if let Some(_) = end_at(job, count, stop) {
+        return Ok(Point::Stop);
     }
+    live_point(alloc, job, stop)
 }
 
 // What an honest account says of a prefix.

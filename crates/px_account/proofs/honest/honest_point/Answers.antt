@@ -10,10 +10,10 @@ pub returns-in-Some-clause-answer : goal.returns-in-Some-clause-answer
 returns-in-Some-clause-answer g c =
     let s = c.state_at.result.now in
     let kinds = c.args.job.now.kinds in
-    (not_by c.is_dead.result _ c.is_dead.ensures c.if-is_dead.false, least_at kinds (prefix_of c.args.stop.now) s c.in-Some.n c.state_at.ensures (subst (IsLeastOf s.vars (constraint s) kinds) c.in-Some.is c.in_ok-least_refuted.ensures.answer))
+    (not_by c.is_dead.result _ c.is_dead.ensures c.if-is_dead.false, least_at kinds (prefix_of c.args.stop.now) s c.in-Some.n c.state_at.ensures (subst (IsLeastOf s.vars (constraint s) kinds) c.in-Some.is c.in_ok-n.ensures.answer))
 
 pub open_point-requires-clause-live : goal.open_point-requires-clause-live
 open_point-requires-clause-live g c =
     let s = c.state_at.result.now in
     let kinds = c.args.job.now.kinds in
-    live_at kinds (prefix_of c.args.stop.now) s c.state_at.ensures (not_by c.is_dead.result _ c.is_dead.ensures c.if-is_dead.false) (subst (IsLeastOf s.vars (constraint s) kinds) c.in-None.is c.in_ok-least_refuted.ensures.answer)
+    live_at kinds (prefix_of c.args.stop.now) s c.state_at.ensures (not_by c.is_dead.result _ c.is_dead.ensures c.if-is_dead.false) (subst (IsLeastOf s.vars (constraint s) kinds) c.in-None.is c.in_ok-n.ensures.answer)
