@@ -80,8 +80,14 @@ pub fn conjunct(alloc: Global, text: &str) -> Result<Conj> {
         "apart" => Conj::OtherPlace(place(first)?, place(second)?),
         "written" => Conj::Written(Var(first.parse()?)),
         "unwritten" => Conj::Unwritten(Var(first.parse()?)),
+        "quotient" => quotient(alloc, Var(first.parse()?), second)?,
         _ => bail!("no conjunct"),
     })
+}
+
+fn quotient(alloc: Global, x: Var, text: &str) -> Result<Conj> {
+    let (first, second) = text.split_once(' ').context("no quotient")?;
+    Ok(Conj::Quotient(x, polynomial(alloc, first)?, polynomial(alloc, second)?))
 }
 
 fn place(text: &str) -> Result<Place> {

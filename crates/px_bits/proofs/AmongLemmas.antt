@@ -1,15 +1,17 @@
 -- What is selected is among the list, and valuations as words.
-use Rattle.std.proofs.Common.{◌≡◌, inl, inr, ℕ, ◌%◌, ◌^◌, List, [], ◌∷◌, get_or, refl, sym, subst, ◌∙◌, arith}
+use Rattle.std.proofs.Common.{◌≡◌, inl, inr, ℕ, ◌%◌, ◌^◌, List, [], ◌∷◌, get_or, refl, sym, ap₂, subst, ◌∙◌, arith}
 use Rattle.std.specs.Prelude.{All, Contains, ◌<ℤ◌, ◌≤ℤ◌}
+use Rattle.std.proofs.Math.Nat.{mod-mod}
 use Rattle.std.proofs.lemmas.List.Elements.{All-nil, All-cons, All-weaker, All-contains, Contains-append_right}
-use Rattle.px_terms.specs.Words.{signed}
+use Rattle.px_terms.specs.Words.{signed, word_quotient}
 use Rattle.px_terms.specs.Polynomials.{Polynomial, value_of}
 use Rattle.px_terms.specs.Valuations.{Valuation, numbers_of, number_of}
 use Rattle.px_terms.specs.Conjuncts.{IsTrueUnder}
 use Rattle.px_terms.specs.declared.conjuncts.Conj.{Conj}
-use Rattle.px_terms.specs.declared.conjuncts.Conj.TheVariants.{Equal, Unequal, Less, AtMost, SamePlace, OtherPlace, Written, Unwritten}
+use Rattle.px_terms.specs.declared.conjuncts.Conj.TheVariants.{Equal, Unequal, Less, AtMost, SamePlace, OtherPlace, Written, Unwritten, Quotient}
 use Rattle.px_plain.specs.Ties.{IsOnWords, IsTrueOf}
 use Rattle.px_solver.specs.Components.{Selects}
+use Rattle.px_cnf.specs.Standing.{IsComparison}
 use Rattle.px_cnf.specs.Words.{AreWords}
 use Rattle.px_solver.proofs.Values.{value_alike}
 use Rattle.px_bits.specs.Laws.{UndecidedAreAmong, NoWordsNoModel, RefutedLooks}
@@ -40,6 +42,7 @@ unfolding word_in
 same_value v p = value_alike (numbers_of v) (word_in v) p (λ k d l. omega arith)
 
 true_of : (v : Valuation) (c : Conj) → IsOnWords c → IsTrueUnder v c → IsTrueOf (word_in v) c
+unfolding word_in
 true_of v (Equal p) w h = sym (same_value v p) ∙ h.1
 true_of v (Unequal p) w h = λ e. h.1 (same_value v p ∙ e)
 true_of v (Less p q) w h = subst (λ (m : ℕ). signed m <ℤ signed (value_of (word_in v) q)) (same_value v p) (subst (λ (m : ℕ). signed (value_of (numbers_of v) p) <ℤ signed m) (same_value v q) h.2)
@@ -48,6 +51,18 @@ true_of v (SamePlace a b) w h = absurd w
 true_of v (OtherPlace a b) w h = absurd w
 true_of v (Written x) w h = absurd w
 true_of v (Unwritten x) w h = absurd w
+true_of v (Quotient x p q) w h = (λ e. h.3.0 (same_value v q ∙ e), mod-mod (number_of (v x.0)) (2 ^ 32) ∙ h.3.1 ∙ ap₂ word_quotient (same_value v p) (same_value v q))
+
+on_words : (c : Conj) → IsComparison c → IsOnWords c
+on_words (Equal p) h = tt
+on_words (Unequal p) h = tt
+on_words (Less p q) h = tt
+on_words (AtMost p q) h = tt
+on_words (SamePlace a b) h = absurd h
+on_words (OtherPlace a b) h = absurd h
+on_words (Written x) h = absurd h
+on_words (Unwritten x) h = absurd h
+on_words (Quotient x p q) h = absurd h
 
 are_words : (v : Valuation) → AreWords (word_in v)
 unfolding word_in
@@ -61,4 +76,4 @@ no_words_no_model = record {
 }
 
 pub refuted_looks : RefutedLooks
-refuted_looks = record { none = λ vars conjuncts kinds hard conflicts d look v h. no_words_no_model.none vars conjuncts kinds hard d look.0.0 look.1 v h }
+refuted_looks = record { none = λ vars conjuncts kinds hard conflicts d look v h. no_words_no_model.none vars conjuncts kinds hard d (All-weaker IsComparison IsOnWords on_words hard look.0.0) look.1 v h }

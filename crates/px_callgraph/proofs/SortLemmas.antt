@@ -9,7 +9,7 @@ use Rattle.px_terms.specs.declared.conjuncts.Place.{Place}
 use Rattle.px_terms.specs.declared.conjuncts.Place.TheVariants as place
 use Rattle.px_terms.specs.declared.conjuncts.Content.{Content}
 use Rattle.px_terms.specs.declared.conjuncts.Conj.{Conj}
-use Rattle.px_terms.specs.declared.conjuncts.Conj.TheVariants.{Equal, Unequal, Less, AtMost, SamePlace, OtherPlace, Written, Unwritten}
+use Rattle.px_terms.specs.declared.conjuncts.Conj.TheVariants.{Equal, Unequal, Less, AtMost, SamePlace, OtherPlace, Written, Unwritten, Quotient}
 use Rattle.px_entry.specs.declared.atoms.Atom.{Atom}
 use Rattle.px_entry.specs.declared.atoms.AtomState.{AtomState}
 use Rattle.px_entry.specs.Sorts.{is_variable_with, is_int, is_pointer, is_int_polynomial, is_pointer_place, is_well_sorted, is_long, is_long_conjunct}
@@ -74,6 +74,7 @@ conjunct_more vars new (SamePlace a b) e = both_more (place_more vars new a) (pl
 conjunct_more vars new (OtherPlace a b) e = both_more (place_more vars new a) (place_more vars new b) e
 conjunct_more vars new (Written x) e = mentioned_more vars new x.0 e
 conjunct_more vars new (Unwritten x) e = mentioned_more vars new x.0 e
+conjunct_more vars new (Quotient x p q) e = both_more (variable_more vars new _ x.0) (both_more (polynomial_more vars new p) (polynomial_more vars new q)) e
 
 -- ---- states
 
@@ -135,3 +136,4 @@ long_terms (SamePlace a b) e = cc
 long_terms (OtherPlace a b) e = cc
 long_terms (Written x) e = cc
 long_terms (Unwritten x) e = cc
+long_terms (Quotient x p q) e = or_two (is_long p) (is_long q) e

@@ -1,6 +1,7 @@
 -- The terms of a callee's entry, read by its caller: what each variable of the entry stands for is a content.
-use Rattle.std.specs.Prelude.{ℕ, suc, ◌||◌, Bool, true, false, List, [], ◌∷◌, map, filter, flat_map, Option, Some, None}
+use Rattle.std.specs.Prelude.{ℕ, suc, ◌||◌, Bool, true, false, cond, nat_eq, List, [], ◌∷◌, map, filter, flat_map, Option, Some, None}
 use Rattle.std.specs.List.{list_all}
+use Rattle.px_terms.specs.Terms.{Term}
 use Rattle.px_terms.specs.Polynomials.{Polynomial}
 use Rattle.px_terms.specs.Variables.{variables_of}
 use Rattle.px_terms.specs.Substitutions.{content_for, substitution_of}
@@ -58,6 +59,30 @@ abbrev pub place_through : Substitution → PlaceOf → Option PlaceOf
 place_through σ place.Null = Some place.Null
 place_through σ (place.Var x) = place_in (content_for σ x.0)
 
+-- the variable of a product that is one alone
+abbrev pub variable_among : ℕ → List ℕ → Option Var
+variable_among c [] = None
+variable_among c (x ∷ []) = cond (nat_eq c 1) (Some (record { 0 = x })) None
+variable_among c (x ∷ y ∷ ys) = None
+
+-- the variable of a sum that is one alone
+abbrev pub variable_in_sum : List Term → Option Var
+variable_in_sum [] = None
+variable_in_sum (t ∷ []) = variable_among t.coefficient t.vars
+variable_in_sum (t ∷ u ∷ us) = None
+
+-- the variable that a polynomial is
+abbrev pub variable_of : Polynomial → Option Var
+variable_of p = cond (nat_eq p.constant 0) (variable_in_sum p.monomials) None
+
+-- the variable that a content is, as a word; that of an unread cell is its variable
+abbrev pub variable_in : Option Content → Option Var
+variable_in None = None
+variable_in (Some Unwritten) = None
+variable_in (Some (Word p)) = variable_of p
+variable_in (Some (Place a)) = None
+variable_in (Some (Cell y)) = Some y
+
 abbrev pub or_unwritten : {A : Type 0} → Option A → (A → Content) → Content
 or_unwritten None f = Unwritten
 or_unwritten (Some a) f = f a
@@ -114,6 +139,11 @@ unwritten_claim (Some (Word p)) = never
 unwritten_claim (Some (Place a)) = never
 unwritten_claim (Some (Cell y)) = claims (conjunct.Unwritten y)
 
+-- a quotient is a variable of the caller too
+abbrev pub quotient_claim : Option Var → Option Polynomial → Option Polynomial → Claim
+quotient_claim None a b = never
+quotient_claim (Some x) a b = claim_two (conjunct.Quotient x) a b
+
 -- A conjunct on words or places whose variables don't stand for such can't be.
 abbrev pub claim_through : Substitution → Conj → Claim
 claim_through σ (conjunct.Equal p) = claim_one conjunct.Equal (word_through σ p)
@@ -124,6 +154,7 @@ claim_through σ (conjunct.SamePlace a b) = claim_two conjunct.SamePlace (place_
 claim_through σ (conjunct.OtherPlace a b) = claim_two conjunct.OtherPlace (place_through σ a) (place_through σ b)
 claim_through σ (conjunct.Written x) = written_claim (content_for σ x.0)
 claim_through σ (conjunct.Unwritten x) = unwritten_claim (content_for σ x.0)
+claim_through σ (conjunct.Quotient x p q) = quotient_claim (variable_in (content_for σ x.0)) (word_through σ p) (word_through σ q)
 
 abbrev pub is_claim_open : List VarInfo → Claim → Bool
 is_claim_open vars surely = true

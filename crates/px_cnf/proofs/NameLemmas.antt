@@ -15,10 +15,9 @@ use Rattle.px_terms.specs.Terms.{Term}
 use Rattle.px_terms.specs.Variables.{variables_of, mentioned}
 use Rattle.px_terms.specs.declared.variables.Var.{Var}
 use Rattle.px_terms.specs.declared.conjuncts.Conj.{Conj}
-use Rattle.px_terms.specs.declared.conjuncts.Conj.TheVariants.{Equal, Unequal, Less, AtMost, SamePlace, OtherPlace, Written, Unwritten}
-use Rattle.px_plain.specs.Ties.{IsOnWords}
+use Rattle.px_terms.specs.declared.conjuncts.Conj.TheVariants.{Equal, Unequal, Less, AtMost, SamePlace, OtherPlace, Written, Unwritten, Quotient}
 use Rattle.px_cnf.specs.Bases.{AreKnown}
-use Rattle.px_cnf.specs.Standing.{AreBits, AreBitsOf, conjunct_degree, degree_sum}
+use Rattle.px_cnf.specs.Standing.{IsComparison, AreBits, AreBitsOf, conjunct_degree, degree_sum}
 
 -- a variable that a conjunct mentions
 pub mentioned_by : (conjuncts : List Conj) (x : ℕ) → Contains (flat_map mentioned conjuncts) x ↔ Any (λ c. Contains (mentioned c) x) conjuncts
@@ -113,7 +112,7 @@ words_inside conjuncts bits n b e k d l = let f = b.firsts k d l in omega arith
 
 -- ---- how many there are
 
-mentioned_degree : (c : Conj) → IsOnWords c → length (mentioned c) ≡ conjunct_degree c
+mentioned_degree : (c : Conj) → IsComparison c → length (mentioned c) ≡ conjunct_degree c
 mentioned_degree (Equal p) w = length-flat_map (λ (t : Term). t.vars) p.monomials
 mentioned_degree (Unequal p) w = length-flat_map (λ (t : Term). t.vars) p.monomials
 mentioned_degree (Less p q) w =
@@ -124,11 +123,12 @@ mentioned_degree (SamePlace a b) w = absurd w
 mentioned_degree (OtherPlace a b) w = absurd w
 mentioned_degree (Written x) w = absurd w
 mentioned_degree (Unwritten x) w = absurd w
+mentioned_degree (Quotient x p q) w = absurd w
 
 -- as many variables are mentioned as the degrees are together
-pub few_mentioned : (conjuncts : List Conj) → All IsOnWords conjuncts → length (flat_map mentioned conjuncts) ≡ degree_sum conjuncts
+pub few_mentioned : (conjuncts : List Conj) → All IsComparison conjuncts → length (flat_map mentioned conjuncts) ≡ degree_sum conjuncts
 few_mentioned [] h = refl
 few_mentioned (c ∷ cs) h =
     length-append (mentioned c) (flat_map mentioned cs)
-    ∙ ap₂ (λ (m n : ℕ). m + n) (mentioned_degree c (All-head IsOnWords c cs h)) (few_mentioned cs (All-tail IsOnWords c cs h))
+    ∙ ap₂ (λ (m n : ℕ). m + n) (mentioned_degree c (All-head IsComparison c cs h)) (few_mentioned cs (All-tail IsComparison c cs h))
     ∙ sym (sum_by-cons conjunct_degree c cs)

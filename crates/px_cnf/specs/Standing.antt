@@ -5,8 +5,8 @@ use Rattle.px_terms.specs.Polynomials.{Polynomial}
 use Rattle.px_terms.specs.Variables.{mentioned}
 use Rattle.px_terms.specs.declared.variables.Var.{Var}
 use Rattle.px_terms.specs.declared.conjuncts.Conj.{Conj}
-use Rattle.px_terms.specs.declared.conjuncts.Conj.TheVariants.{Equal, Unequal, Less, AtMost, SamePlace, OtherPlace, Written, Unwritten}
-use Rattle.px_plain.specs.Ties.{IsOnWords, IsTrueOf}
+use Rattle.px_terms.specs.declared.conjuncts.Conj.TheVariants.{Equal, Unequal, Less, AtMost, SamePlace, OtherPlace, Written, Unwritten, Quotient}
+use Rattle.px_plain.specs.Ties.{IsTrueOf}
 use Rattle.px_cnf.specs.Clauses.{Assignment, Meets, AreClausesBelow, Forced, IsFalsified}
 use Rattle.px_cnf.specs.Circuits.{Gates, IsCircuit, TrueBelow, literal}
 use Rattle.px_cnf.specs.Words.{Gives, AreWords}
@@ -14,6 +14,18 @@ use Rattle.px_cnf.specs.declared.literal.Literal.{Literal}
 use Rattle.px_cnf.specs.declared.cnf.Cnf.{Cnf}
 use Rattle.px_cnf.specs.declared.cnf.CnfFault.{CnfFault}
 use Rattle.px_cnf.specs.declared.cnf.CnfFault.TheVariants.{Form, Large, NoMemory}
+
+-- an equality, a disequality or an order of words: these have circuits, and a quotient has none
+abbrev pub IsComparison : Conj → Type 0
+IsComparison (Equal p) = ⊤
+IsComparison (Unequal p) = ⊤
+IsComparison (Less p q) = ⊤
+IsComparison (AtMost p q) = ⊤
+IsComparison (SamePlace a b) = ⊥
+IsComparison (OtherPlace a b) = ⊥
+IsComparison (Written x) = ⊥
+IsComparison (Unwritten x) = ⊥
+IsComparison (Quotient x p q) = ⊥
 
 -- the words make all conjuncts true
 abbrev pub AreTrueOf : (ℕ → ℕ) → List Conj → Type 0
@@ -61,6 +73,7 @@ conjunct_degree (SamePlace a b) = 0
 conjunct_degree (OtherPlace a b) = 0
 conjunct_degree (Written x) = 0
 conjunct_degree (Unwritten x) = 0
+conjunct_degree (Quotient x p q) = 0
 
 -- the sum of the degrees of all monomials
 abbrev pub degree_sum : List Conj → ℕ
@@ -72,16 +85,16 @@ most_degree_sum = 64
 
 -- ---- what isn't taken
 
--- the first conjunct that isn't on words stands at n
+-- the first conjunct that is no comparison of words stands at n
 pub record IsFirstOther (conjuncts : List Conj) (n : ℕ) : Type 0 where
   pub inside : n < length conjuncts
-  pub other : (d : Conj) → ¬ IsOnWords (slice_index_or conjuncts n d)
-  pub earlier : All IsOnWords (take n conjuncts)
+  pub other : (d : Conj) → ¬ IsComparison (slice_index_or conjuncts n d)
+  pub earlier : All IsComparison (take n conjuncts)
 
 -- why conjuncts have no clauses
 abbrev pub IsRefused : CnfFault → List Conj → Type 0
 IsRefused (Form n) conjuncts = IsFirstOther conjuncts n
-IsRefused (Large n) conjuncts = All IsOnWords conjuncts × (n ≡ degree_sum conjuncts) × (most_degree_sum < n)
+IsRefused (Large n) conjuncts = All IsComparison conjuncts × (n ≡ degree_sum conjuncts) × (most_degree_sum < n)
 IsRefused NoMemory conjuncts = ⊤
 
 -- ---- how clauses are made

@@ -1,6 +1,5 @@
 ghost use Rattle.std.specs.Prelude.{◌≡◌, ◌↔◌, ◌&&◌, ◌++◌, ◌<◌, ◌≤◌, ◌*◌, ◌^◌, All, length, IfOk, IfErr, OnOk};
-ghost use Rattle.px_plain.specs.Ties.{IsOnWords};
-ghost use Rattle.px_cnf.specs.Standing.{AreBits, StandsFor, IsRefused, IsTranslation, AreJoined, degree_sum, most_degree_sum};
+ghost use Rattle.px_cnf.specs.Standing.{IsComparison, AreBits, StandsFor, IsRefused, IsTranslation, AreJoined, degree_sum, most_degree_sum};
 ghost use Rattle.px_cnf.specs.Circuits.{gates_of};
 ghost use Rattle.px_cnf.specs.declared.cnf.CnfFault.TheVariants as fault;
 
@@ -27,8 +26,8 @@ pub struct Cnf {
 /// Why conjuncts have no clauses.
 #[derive(Clone, Copy, Debug, PartialEq, Eq, Error)]
 pub enum CnfFault {
-    /// The conjunct at this place is the first that isn't on words.
-    #[error("conjunct {0} isn't on words")]
+    /// The conjunct at this place is the first that is no comparison of words.
+    #[error("conjunct {0} is no comparison of words")]
     Form(u32),
     /// The degrees of all monomials are this many together, more than 64.
     #[error("degrees of {0} together")]
@@ -51,7 +50,7 @@ fn circuit_of(
     bits: &[(Var, u32)],
     conjuncts: &[Conj],
 ) -> Result<(Circuit, Vec<Items<Literal>>), NoMemory>
-    requires words { All IsOnWords conjuncts.now }
+    requires words { All IsComparison conjuncts.now }
     requires bits { AreBits conjuncts.now bits.now }
     requires few { 32 * length bits.now < 2 ^ 32 }
     ensures { IfOk result (λ t. IsTranslation (gates_of t.0) t.1.items bits.now conjuncts.now) }
@@ -87,7 +86,7 @@ fn joined(
 pub fn translate(alloc: Global, conjuncts: &[Conj]) -> Result<Cnf, CnfFault>
     requires { length conjuncts.now < 2 ^ 32 }
     ensures stands { IfOk result (λ cnf. StandsFor cnf conjuncts.now) }
-    ensures taken { OnOk result (All IsOnWords conjuncts.now × (degree_sum conjuncts.now ≤ most_degree_sum)) }
+    ensures taken { OnOk result (All IsComparison conjuncts.now × (degree_sum conjuncts.now ≤ most_degree_sum)) }
     ensures refused { IfErr result (λ e. IsRefused e conjuncts.now) }
 {
     check(conjuncts)?;

@@ -1,6 +1,5 @@
 ghost use Rattle.std.specs.Prelude.{◌≡◌, ◌↔◌, ◌<◌, ◌≤◌, ◌^◌, ◌*◌, true, length, All, IfErr, OnOk};
-ghost use Rattle.px_plain.specs.Ties.{IsOnWords};
-ghost use Rattle.px_cnf.specs.Standing.{polynomial_degree, conjunct_degree, degree_sum, most_degree_sum, IsRefused};
+ghost use Rattle.px_cnf.specs.Standing.{IsComparison, polynomial_degree, conjunct_degree, degree_sum, most_degree_sum, IsRefused};
 
 use crate::CnfFault;
 use px_terms::{Conj, Poly};
@@ -8,9 +7,9 @@ use px_terms::{Conj, Poly};
 /// The greatest sum of the degrees of all monomials.
 const MOST_DEGREE_SUM: u64 = 64;
 
-// Whether a conjunct is on words.
-fn is_on_words(conjunct: &Conj) -> bool
-    ensures { result ≡ true ↔ IsOnWords conjunct.now }
+// Whether a conjunct is a comparison of words.
+fn is_comparison(conjunct: &Conj) -> bool
+    ensures { result ≡ true ↔ IsComparison conjunct.now }
 {
     matches!(
         conjunct,
@@ -42,16 +41,16 @@ fn conjunct_degree(conjunct: &Conj) -> u64
     }
 }
 
-// Whether the conjuncts are on words, and not too large.
+// Whether the conjuncts are comparisons of words, and not too large.
 pub(crate) fn check(conjuncts: &[Conj]) -> Result<(), CnfFault>
     requires { length conjuncts.now < 2 ^ 32 }
-    ensures words { OnOk result (All IsOnWords conjuncts.now) }
+    ensures words { OnOk result (All IsComparison conjuncts.now) }
     ensures small { OnOk result (degree_sum conjuncts.now ≤ most_degree_sum) }
     ensures refused { IfErr result (λ e. IsRefused e conjuncts.now) }
 {
     for i in 0..conjuncts.len() {
-        let on_words = is_on_words(&conjuncts[i]);
-        if !on_words {
+        let comparison = is_comparison(&conjuncts[i]);
+        if !comparison {
             return Err(CnfFault::Form(i as u32));
         }
     }

@@ -1,8 +1,8 @@
 ghost use Rattle.std.specs.Prelude.{◌≡◌, ◌↔◌, ℕ, ◌+◌, ◌*◌, ◌<◌, ◌≤◌, ◌++◌, ◌^◌, All, Any, Contains, map, flat_map, length, slice_index_or, IfOk, OnOk};
 ghost use Rattle.std.specs.List.Sorted.{IsStrictlyIncreasing};
 ghost use Rattle.px_terms.specs.Variables.{variables_of, place_variables, mentioned};
-ghost use Rattle.px_plain.specs.Ties.{IsOnWords};
-ghost use Rattle.px_cnf.specs.Standing.{AreBits, AreBitsOf, degree_sum, most_degree_sum};
+ghost use Rattle.px_terms.specs.declared.conjuncts.Conj.TheVariants.{Quotient};
+ghost use Rattle.px_cnf.specs.Standing.{IsComparison, AreBits, AreBitsOf, degree_sum, most_degree_sum};
 
 use px_terms::{Conj, NoMemory, Place, Poly, Var};
 use std::alloc::Global;
@@ -27,6 +27,15 @@ fn push_place(names: &mut Vec<u32>, a: Place) -> Result<(), NoMemory>
     Ok(())
 }
 
+// The variables of a quotient, after others.
+fn push_quotient(names: &mut Vec<u32>, x: Var, p: &Poly, q: &Poly) -> Result<(), NoMemory>
+    ensures { OnOk result (names.new.items ≡ names.old.items ++ mentioned (Quotient x p.now q.now)) }
+{
+    names.push(x.0)?;
+    push_variables(names, p)?;
+    push_variables(names, q)
+}
+
 // The variables that a conjunct mentions, after others.
 fn push_mentioned(names: &mut Vec<u32>, conjunct: &Conj) -> Result<(), NoMemory>
     ensures { OnOk result (names.new.items ≡ names.old.items ++ mentioned conjunct.now) }
@@ -45,6 +54,7 @@ fn push_mentioned(names: &mut Vec<u32>, conjunct: &Conj) -> Result<(), NoMemory>
             names.push(x.0)?;
             Ok(())
         }
+        Conj::Quotient(x, p, q) => push_quotient(names, *x, p, q),
     }
 }
 
@@ -77,7 +87,7 @@ fn words_of(alloc: Global, names: &[u32]) -> Result<Vec<(Var, u32)>, NoMemory>
 
 // A word for each variable that conjuncts mention.
 pub(crate) fn bits_of(alloc: Global, conjuncts: &[Conj]) -> Result<Vec<(Var, u32)>, NoMemory>
-    requires words { All IsOnWords conjuncts.now }
+    requires words { All IsComparison conjuncts.now }
     requires small { degree_sum conjuncts.now ≤ most_degree_sum }
     ensures bits { IfOk result (λ z. AreBits conjuncts.now z.items) }
     ensures few { IfOk result (λ z. 32 * length z.items < 2 ^ 32) }

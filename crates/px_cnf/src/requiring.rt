@@ -3,11 +3,12 @@ ghost use Rattle.std.specs.List.{list_all};
 ghost use Rattle.px_terms.specs.Words.{signed};
 ghost use Rattle.px_terms.specs.Polynomials.{value_of};
 ghost use Rattle.px_terms.specs.Variables.{variables_of, mentioned};
-ghost use Rattle.px_plain.specs.Ties.{IsOnWords, IsTrueOf};
+ghost use Rattle.px_plain.specs.Ties.{IsTrueOf};
 ghost use Rattle.px_cnf.specs.Clauses.{Assignment, holds, is_met, are_met, negated, Meets, AreBelow, AreClausesBelow};
 ghost use Rattle.px_cnf.specs.Circuits.{gates_of, Grows};
 ghost use Rattle.px_cnf.specs.Words.{number, raised, Gives};
 ghost use Rattle.px_cnf.specs.Bases.{IsBase, AreKnown};
+ghost use Rattle.px_cnf.specs.Standing.{IsComparison};
 
 use crate::Literal;
 use crate::circuit::Circuit;
@@ -105,7 +106,7 @@ impl Circuit {
     ) -> Result<(), NoMemory>
         requires base { IsBase (gates_of self.old) base }
         requires known { AreKnown base.bits.now (mentioned conjunct.now) }
-        requires words { IsOnWords conjunct.now }
+        requires words { IsComparison conjunct.now }
         requires inside { AreClausesBelow self.old.variables asserted.old.items }
         ensures grows { OnOk result (Grows (gates_of self.old) (gates_of self.new)) }
         ensures inside { OnOk result (AreClausesBelow self.new.variables asserted.new.items) }

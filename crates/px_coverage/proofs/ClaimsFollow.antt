@@ -1,12 +1,12 @@
 -- What is true of a callee's values, its caller may assume of what stands for them.
-use Rattle.std.proofs.Common.{◌≡◌, ℕ, ◌<◌, Bool, true, false, Option, Some, None, List, [], ◌∷◌, length, slice_get, refl, sym, ap, ◌∙◌, subst}
+use Rattle.std.proofs.Common.{◌≡◌, ℕ, ◌<◌, Bool, true, false, Option, Some, None, List, [], ◌∷◌, length, slice_get, refl, sym, ap, ◌∙◌, subst, ap₂, ◌&&◌}
 use Rattle.std.specs.Prelude.{All, ◌<ℤ◌, ◌≤ℤ◌, flat_map, fold}
 use Rattle.std.specs.List.{list_all}
 use Rattle.std.proofs.lemmas.Bool.{and_parts, and_from, lt-ltb, ltb-true}
 use Rattle.std.proofs.lemmas.Option.{same_Some, slice_get_within}
-use Rattle.px_terms.specs.Words.{signed}
+use Rattle.px_terms.specs.Words.{signed, word_quotient}
 use Rattle.px_terms.specs.Polynomials.{Polynomial, terms_of}
-use Rattle.px_terms.specs.Substitutions.{content_for, image_by, substituted, substitution_of}
+use Rattle.px_terms.specs.Substitutions.{content_for, image_by, substituted, substitution_of, variable}
 use Rattle.px_terms.specs.Variables.{variables_of}
 use Rattle.px_terms.specs.Valuations.{Valuation, IsWord, IsPlace, IsUnwritten, Fits}
 use Rattle.px_terms.specs.Conjuncts.{word_of, place_of, HasWords, ArePlaces, IsTrueUnder}
@@ -24,13 +24,13 @@ use Rattle.px_terms.proofs.NormalForm.{form_polynomial}
 use Rattle.px_entry.specs.Sorts.{is_some_and, is_int, is_int_type, is_pointer_type, is_pointer_place, is_int_polynomial, has_type, same_type, is_cell_sort, is_well_sorted}
 use Rattle.px_entry.specs.Standing.{content_value}
 use Rattle.px_entry.proofs.Lists.{Each, each_all, all_each, each_from, each_to}
-use Rattle.px_callgraph.specs.Renaming.{Substitution, is_word, word_through, place_in, place_through, Claim, surely, never, claims, claim_one, claim_two, written_claim, unwritten_claim, claim_through, is_claim_open, assume_claim}
+use Rattle.px_callgraph.specs.Renaming.{Substitution, is_word, word_through, place_in, place_through, Claim, surely, never, claims, claim_one, claim_two, written_claim, unwritten_claim, claim_through, is_claim_open, assume_claim, variable_in, quotient_claim}
 use Rattle.px_soundness.proofs.WellFormed.{Good}
 use Rattle.px_soundness.proofs.AtomHeaps.{absent}
 use Rattle.px_soundness.proofs.Truths.{HasForm, variable_is}
 use Rattle.px_soundness.proofs.Contents.{good_place}
 use Rattle.px_soundness.proofs.Through.{stood, through, GoodSubstitution, good_for, word_is}
-use Rattle.px_soundness.proofs.FitsThrough.{Suits, Stands, same_is}
+use Rattle.px_soundness.proofs.FitsThrough.{Suits, Stands, same_is, input_content}
 use Rattle.px_soundness.proofs.CallReads.{only_cell}
 use Rattle.px_soundness.proofs.WordsThrough.{HasImage, substitution_has}
 use Rattle.px_coverage.proofs.Opens.{open_true, assume_true, good_words, good_ints, good_pointer}
@@ -38,6 +38,9 @@ use Rattle.px_callgraph.proofs.KeepLemmas.{each_weaker}
 use Rattle.px_soundness.proofs.CallReady.{get_there}
 use Rattle.px_soundness.proofs.ContentsThrough.{no_both}
 use Rattle.px_soundness.proofs.ClaimsThrough.{place_not_unwritten}
+use Rattle.px_entry.specs.Regular.{is_quotient_input}
+use Rattle.std.proofs.lemmas.List.Elements.{All-head}
+use Rattle.px_soundness.proofs.VariableWords.{variable_number}
 
 module _ (vars : List VarInfo) (pure : List Conj) (v : Valuation) (fits : Fits vars v) (true_of : Each (IsTrueUnder v) pure) (xs : List VarInfo) (σ : Substitution) (good : GoodSubstitution vars pure v fits σ) (stands : Stands vars pure xs σ) where
   -- the caller may assume it
@@ -174,10 +177,10 @@ module _ (vars : List VarInfo) (pure : List Conj) (v : Valuation) (fits : Fits v
 
   -- ---- conjuncts
 
-  pub claim_follows : (c : Conj) → is_well_sorted xs c ≡ true → IsTrueUnder (through v σ) c → MayBeAssumed (claim_through σ c)
-  claim_follows (conjunct.Equal p) e t = let h = polynomial_there p e t.0 in one_word conjunct.Equal p h (h.ints, form_of p h, (h.words, h.same ∙ t.1))
-  claim_follows (conjunct.Unequal p) e t = let h = polynomial_there p e t.0 in one_word conjunct.Unequal p h (h.ints, form_of p h, (h.words, λ z. t.1 (sym h.same ∙ z)))
-  claim_follows (conjunct.Less p q) e t =
+  pub claim_follows : (c : Conj) → is_well_sorted xs c ≡ true → is_quotient_input xs c ≡ true → IsTrueUnder (through v σ) c → MayBeAssumed (claim_through σ c)
+  claim_follows (conjunct.Equal p) e r t = let h = polynomial_there p e t.0 in one_word conjunct.Equal p h (h.ints, form_of p h, (h.words, h.same ∙ t.1))
+  claim_follows (conjunct.Unequal p) e r t = let h = polynomial_there p e t.0 in one_word conjunct.Unequal p h (h.ints, form_of p h, (h.words, λ z. t.1 (sym h.same ∙ z)))
+  claim_follows (conjunct.Less p q) e r t =
       let b = and_parts (is_int_polynomial xs p) (is_int_polynomial xs q) e in
       let h = polynomial_there p b.0 t.0 in
       let k = polynomial_there q b.1 t.1 in
@@ -186,7 +189,7 @@ module _ (vars : List VarInfo) (pure : List Conj) (v : Valuation) (fits : Fits v
         (form_of p h, form_of q k),
         (h.words, k.words, subst (λ m. signed m <ℤ signed (word_of v k.polynomial)) (sym h.same) (subst (λ m. signed (word_of (through v σ) p) <ℤ signed m) (sym k.same) t.2)),
       )
-  claim_follows (conjunct.AtMost p q) e t =
+  claim_follows (conjunct.AtMost p q) e r t =
       let b = and_parts (is_int_polynomial xs p) (is_int_polynomial xs q) e in
       let h = polynomial_there p b.0 t.0 in
       let k = polynomial_there q b.1 t.1 in
@@ -195,40 +198,60 @@ module _ (vars : List VarInfo) (pure : List Conj) (v : Valuation) (fits : Fits v
         (form_of p h, form_of q k),
         (h.words, k.words, subst (λ m. signed m ≤ℤ signed (word_of v k.polynomial)) (sym h.same) (subst (λ m. signed (word_of (through v σ) p) ≤ℤ signed m) (sym k.same) t.2)),
       )
-  claim_follows (conjunct.SamePlace a b) e t =
+  claim_follows (conjunct.SamePlace a b) e r t =
       let r = and_parts (is_pointer_place xs a) (is_pointer_place xs b) e in
       let h = place_there a r.0 t.0.0 in
       let k = place_there b r.1 t.0.1 in
       two_places conjunct.SamePlace a b h k (and_from _ _ h.sorted k.sorted, tt, (are_places a b h k t.0, h.same ∙ t.1 ∙ sym k.same))
-  claim_follows (conjunct.OtherPlace a b) e t =
+  claim_follows (conjunct.OtherPlace a b) e r t =
       let r = and_parts (is_pointer_place xs a) (is_pointer_place xs b) e in
       let h = place_there a r.0 t.0.0 in
       let k = place_there b r.1 t.0.1 in
       two_places conjunct.OtherPlace a b h k (and_from _ _ h.sorted k.sorted, tt, (are_places a b h k t.0, λ z. t.1 (sym h.same ∙ z ∙ k.same)))
-  claim_follows (conjunct.Written y) e t = was_written (content_for σ y.0) (good_for vars pure v fits σ good y.0) t
-  claim_follows (conjunct.Unwritten y) e t =
+  claim_follows (conjunct.Written y) e r t = was_written (content_for σ y.0) (good_for vars pure v fits σ good y.0) t
+  claim_follows (conjunct.Unwritten y) e r t =
       let (i, at) = get_there xs y.0 (ltb-true y.0 (length xs) e) in
       let (c, is, g, suits) = stands.content y.0 i at in
       subst (λ o. MayBeAssumed (unwritten_claim o)) (sym is) (was_unwritten c g (subst (λ o. IsUnwritten (stood v o)) is t))
+  claim_follows (conjunct.Quotient y p q) e r t =
+      let a = and_parts (is_int xs y.0) (is_int_polynomial xs p && is_int_polynomial xs q) e in
+      let b = and_parts (is_int_polynomial xs p) (is_int_polynomial xs q) a.1 in
+      let (m, is, input, g) = input_content vars pure xs σ stands y.0 r in
+      let h = polynomial_there p b.0 t.1 in
+      let k = polynomial_there q b.1 t.2 in
+      let one = variable_number v (content_for σ y.0) (record { 0 = m }) (ap variable_in is) in
+      subst (λ o. MayBeAssumed (quotient_claim (variable_in o) (word_through σ p) (word_through σ q))) (sym is)
+      (two_words (conjunct.Quotient (record { 0 = m })) p q h k (
+        and_from _ _ g.1.0.0 (and_from _ _ h.ints k.ints),
+        (form_of p h, form_of q k),
+        (
+          All-head (λ x. IsWord (v x)) m [] (good_words vars pure v fits true_of (variable m) g),
+          h.words,
+          k.words,
+          (λ z. t.3.0 (sym k.same ∙ z), sym one ∙ t.3.1 ∙ ap₂ word_quotient (sym h.same) (sym k.same)),
+        ),
+      ))
 
   -- ---- all of an entry
 
-  pub are_open : (cs : List Conj) → list_all (is_well_sorted xs) cs ≡ true → Each (IsTrueUnder (through v σ)) cs → list_all (λ c. is_claim_open vars (claim_through σ c)) cs ≡ true
-  are_open [] e t = refl
-  are_open (c ∷ cs) e t =
+  pub are_open : (cs : List Conj) → list_all (is_well_sorted xs) cs ≡ true → list_all (is_quotient_input xs) cs ≡ true → Each (IsTrueUnder (through v σ)) cs → list_all (λ c. is_claim_open vars (claim_through σ c)) cs ≡ true
+  are_open [] e r t = refl
+  are_open (c ∷ cs) e r t =
+      let d = and_parts (is_quotient_input xs c) (list_all (is_quotient_input xs) cs) r in
       let b = and_parts (is_well_sorted xs c) (list_all (is_well_sorted xs) cs) e in
-      and_from _ _ (open_claim (claim_through σ c) (claim_follows c b.0 t.0)) (are_open cs b.1 t.1)
+      and_from _ _ (open_claim (claim_through σ c) (claim_follows c b.0 d.0 t.0)) (are_open cs b.1 d.1 t.1)
     where
       open_claim : (d : Claim) → MayBeAssumed d → is_claim_open vars d ≡ true
       open_claim surely m = refl
       open_claim never m = absurd m
       open_claim (claims c) m = open_true vars v fits c m.0 m.1 m.2
 
-  pub all_assumed : (cs says : List Conj) → list_all (is_well_sorted xs) cs ≡ true → Each (IsTrueUnder (through v σ)) cs → Each (IsTrueUnder v) says → Each (IsTrueUnder v) (fold (λ ps c. assume_claim vars ps (claim_through σ c)) says cs)
-  all_assumed [] says e t h = h
-  all_assumed (c ∷ cs) says e t h =
+  pub all_assumed : (cs says : List Conj) → list_all (is_well_sorted xs) cs ≡ true → list_all (is_quotient_input xs) cs ≡ true → Each (IsTrueUnder (through v σ)) cs → Each (IsTrueUnder v) says → Each (IsTrueUnder v) (fold (λ ps c. assume_claim vars ps (claim_through σ c)) says cs)
+  all_assumed [] says e r t h = h
+  all_assumed (c ∷ cs) says e r t h =
+      let d = and_parts (is_quotient_input xs c) (list_all (is_quotient_input xs) cs) r in
       let b = and_parts (is_well_sorted xs c) (list_all (is_well_sorted xs) cs) e in
-      all_assumed cs (assume_claim vars says (claim_through σ c)) b.1 t.1 (assumed (claim_through σ c) (claim_follows c b.0 t.0))
+      all_assumed cs (assume_claim vars says (claim_through σ c)) b.1 d.1 t.1 (assumed (claim_through σ c) (claim_follows c b.0 d.0 t.0))
     where
       assumed : (d : Claim) → MayBeAssumed d → Each (IsTrueUnder v) (assume_claim vars says d)
       assumed surely m = h

@@ -115,6 +115,9 @@ module _ (vars : List VarInfo) (v w : Valuation) (agree : (y : ℕ) → y < leng
   mentioned_below (conjunct.OtherPlace a b) e = two_places a b e
   mentioned_below (conjunct.Written y) e = (ltb-true y.0 (length vars) e, tt)
   mentioned_below (conjunct.Unwritten y) e = (ltb-true y.0 (length vars) e, tt)
+  mentioned_below (conjunct.Quotient y p q) e =
+      let b = and_parts (is_int vars y.0) (list_all (is_int vars) (variables_of p) && list_all (is_int vars) (variables_of q)) e in
+      (variable_below _ y.0 b.0, two_words (variables_of p) (variables_of q) b.1)
 
   pub truths_same : (cs : List Conj) → list_all (is_well_sorted vars) cs ≡ true → Each (IsTrueUnder v) cs → Each (IsTrueUnder w) cs
   truths_same [] e h = tt

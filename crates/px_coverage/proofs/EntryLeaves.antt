@@ -119,7 +119,7 @@ module _ (j : JobTree) (e : Execution) (contents : List Content) (x : Entry) (re
   truths = truths_same x.vars w W through_is x.pure of.sorted (conjuncts_true j.types (length contents) x regular inner is_of)
 
   pub possible : is_possible x all u ≡ true
-  possible = are_open vars u.pure val fits between.true_of x.vars all good stands_for x.pure of.sorted truths
+  possible = are_open vars u.pure val fits between.true_of x.vars all good stands_for x.pure of.sorted of.quotients truths
 
   abbrev found : List Atom
   found = found_atoms x.vars x.post
@@ -231,7 +231,7 @@ module _ (j : JobTree) (e : Execution) (contents : List Content) (x : Entry) (re
   behind = record {
     sorts = between.sorts;
     given = between.given;
-    true_of = all_assumed vars u.pure val fits between.true_of x.vars all good stands_for x.pure u.pure of.sorted truths between.true_of;
+    true_of = all_assumed vars u.pure val fits between.true_of x.vars all good stands_for x.pure u.pure of.sorted of.quotients truths between.true_of;
     placed = placed_append val changed added changed_placed (placed_of made made_kinds (placed_filter W (λ (a : Atom). is_made x.vars a.place.0) x.post posts_placed))
         (λ n. elim (apart n) [ inl f ↦ inr f | inr f ↦ inl (updated_none val all used found u.atoms n (front_none (heap_of val u.atoms) rest n f)) ]);
     apart = λ n. elim (between.apart n) [

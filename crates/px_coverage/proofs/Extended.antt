@@ -142,6 +142,7 @@ module _ (vars : List VarInfo) (pure : List Conj) (v w : Valuation) (agree : (x 
   mentioned_below (conjunct.OtherPlace a b) g = each_append (λ x. x < length vars) (place_variables a) (place_variables b) (place_below a g.0) (place_below b g.1)
   mentioned_below (conjunct.Written x) g = (g.0, tt)
   mentioned_below (conjunct.Unwritten x) g = (g, tt)
+  mentioned_below (conjunct.Quotient x p q) g = (variable_below _ x.0 g.0, each_append (λ x. x < length vars) (variables_of p) (variables_of q) (words_below (variables_of p) g.2) (words_below (variables_of q) g.3))
 
   truths_agree : (cs : List Conj) → Each (GoodConj vars pure) cs → Each (IsTrueUnder v) cs → Each (IsTrueUnder w) cs
   truths_agree [] g h = tt

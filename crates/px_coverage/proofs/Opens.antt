@@ -99,6 +99,7 @@ module _ (vars : List VarInfo) (v : Valuation) (fits : Fits vars v) where
   decided_false (conjunct.OtherPlace a b) s form e says = says (says_contrary (conjunct.SamePlace a b) s form (others_false (is_same_place vars a b) e))
   decided_false (conjunct.Written x) s form e says = cc
   decided_false (conjunct.Unwritten x) s form e says = cc
+  decided_false (conjunct.Quotient x p q) s form e says = cc
 
   pub open_true : (c : Conj) → is_well_sorted vars c ≡ true → HasForm c → IsTrueUnder v c → is_open vars c ≡ true
   open_true c s form t = or_right (is_long_conjunct c) (is_well_sorted vars c && not (is_false (decided vars c))) (and_from _ _ s (by (is_false (decided vars c)) refl))

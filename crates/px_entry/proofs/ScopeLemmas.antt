@@ -15,7 +15,7 @@ use Rattle.px_terms.specs.declared.conjuncts.Place.TheVariants as place
 use Rattle.px_terms.specs.declared.conjuncts.Content.{Content}
 use Rattle.px_terms.specs.declared.conjuncts.Content.TheVariants as content
 use Rattle.px_terms.specs.declared.conjuncts.Conj.{Conj}
-use Rattle.px_terms.specs.declared.conjuncts.Conj.TheVariants.{Equal, Unequal, Less, AtMost, SamePlace, OtherPlace, Written, Unwritten}
+use Rattle.px_terms.specs.declared.conjuncts.Conj.TheVariants.{Equal, Unequal, Less, AtMost, SamePlace, OtherPlace, Written, Unwritten, Quotient}
 use Rattle.px_entry.specs.declared.atoms.Atom.{Atom}
 use Rattle.px_entry.specs.declared.atoms.AtomState.{AtomState}
 use Rattle.px_entry.specs.declared.atoms.AtomState.TheVariants.{Live, Freed}
@@ -56,6 +56,9 @@ conjunct_scoped vars (SamePlace a b) e = two_scoped vars (is_pointer_place vars)
 conjunct_scoped vars (OtherPlace a b) e = two_scoped vars (is_pointer_place vars) place_variables (place_scoped vars) a b e
 conjunct_scoped vars (Written x) e = (ltb-true x.0 (length vars) e, tt)
 conjunct_scoped vars (Unwritten x) e = (ltb-true x.0 (length vars) e, tt)
+conjunct_scoped vars (Quotient x p q) e =
+    let b = and_parts (is_int vars x.0) (is_int_polynomial vars p && is_int_polynomial vars q) e in
+    (in_list vars _ x.0 b.0, two_scoped vars (is_int_polynomial vars) variables_of (polynomial_scoped vars) p q b.1)
 
 used_scoped : (vars : List VarInfo) (c : Conj) → is_well_sorted vars c ≡ true → Each (Below vars) (used_by_conjunct c)
 used_scoped vars (Equal p) e = conjunct_scoped vars (Equal p) e
@@ -66,6 +69,7 @@ used_scoped vars (SamePlace a b) e = conjunct_scoped vars (SamePlace a b) e
 used_scoped vars (OtherPlace a b) e = conjunct_scoped vars (OtherPlace a b) e
 used_scoped vars (Written x) e = conjunct_scoped vars (Written x) e
 used_scoped vars (Unwritten x) e = tt
+used_scoped vars (Quotient x p q) e = conjunct_scoped vars (Quotient x p q) e
 
 -- ---- contents
 
@@ -156,7 +160,7 @@ regular_scoped types n x e =
     let pre = (and_parts (are_variables_regular n x) (is_pre_regular types x) s.0).1 in
     let pre_fits = (and_parts _ _ (and_parts _ _ (and_parts _ _ pre).0).0) in
     let post_fits = (and_parts _ _ (and_parts _ _ (and_parts _ _ s.1).0).0) in
-    let terms = and_parts _ _ (and_parts _ _ r.1).0 in
+    let terms = and_parts _ _ (and_parts _ _ (and_parts _ _ r.1).0).0 in
     let pure_used = each_given (is_well_sorted x.vars) B used_by_conjunct (used_scoped x.vars) x.pure terms.0 in
     let pre_used = atoms_used types x.vars (is_own_cell x.vars) (own_scoped x.vars) (own_cells_scoped x.vars) x.pre pre_fits.0 pre_fits.1 in
     let post_used = atoms_used types x.vars (fits_cell x.vars) (cell_scoped x.vars) (cell_cells_scoped x.vars) x.post post_fits.0 post_fits.1 in

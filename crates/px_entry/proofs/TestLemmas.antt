@@ -14,7 +14,7 @@ use Rattle.px_terms.specs.declared.variables.Var.{Var}
 use Rattle.px_terms.specs.declared.conjuncts.Place.{Place}
 use Rattle.px_terms.specs.declared.conjuncts.Place.TheVariants as place
 use Rattle.px_terms.specs.declared.conjuncts.Conj.{Conj}
-use Rattle.px_terms.specs.declared.conjuncts.Conj.TheVariants.{Equal, Unequal, Less, AtMost, SamePlace, OtherPlace, Written, Unwritten}
+use Rattle.px_terms.specs.declared.conjuncts.Conj.TheVariants.{Equal, Unequal, Less, AtMost, SamePlace, OtherPlace, Written, Unwritten, Quotient}
 use Rattle.px_entry.specs.Sorts.{is_int_type, is_pointer_type, is_some_and, is_int, is_int_polynomial, is_pointer_place, is_well_sorted}
 use Rattle.px_entry.specs.Equality.{same_list, same_term, same_polynomial, same_place, same_conjunct}
 use Rattle.px_entry.specs.Laws.{TestsDecide}
@@ -51,6 +51,12 @@ pointer_place vars (place.Var x) = pointer_variable (slice_get vars x.0)
 both : {A B : Type 0} (x y : Bool) → (x ≡ true ↔ A) → (y ≡ true ↔ B) → ((x && y) ≡ true ↔ (A × B))
 both x y h k = (λ e. let b = and_parts x y e in (h.0 b.0, k.0 b.1), λ p. and_from x y (h.1 p.0) (k.1 p.1))
 
+three : {A B C : Type 0} (x y z : Bool) → (x ≡ true ↔ A) → (y ≡ true ↔ B) → (z ≡ true ↔ C) → ((x && (y && z)) ≡ true ↔ (A × B × C))
+three x y z f g h = (
+  λ e. let a = and_parts x (y && z) e in let b = and_parts y z a.1 in (f.0 a.0, g.0 b.0, h.0 b.1),
+  λ p. and_from x (y && z) (f.1 p.0) (and_from y z (g.1 p.1) (h.1 p.2)),
+)
+
 below : (n m : ℕ) → nat_lt n m ≡ true ↔ n < m
 below n m = (ltb-true n m, lt-ltb n m)
 
@@ -63,6 +69,7 @@ well_sorted vars (SamePlace a b) = both _ _ (pointer_place vars a) (pointer_plac
 well_sorted vars (OtherPlace a b) = both _ _ (pointer_place vars a) (pointer_place vars b)
 well_sorted vars (Written x) = below x.0 (length vars)
 well_sorted vars (Unwritten x) = below x.0 (length vars)
+well_sorted vars (Quotient x p q) = three _ _ _ (int_variable (slice_get vars x.0)) (int_polynomial vars p) (int_polynomial vars q)
 
 -- ---- equality: a test that gives equal items, and answers true of the same
 
@@ -120,6 +127,9 @@ conjunct_equal (SamePlace a b) (SamePlace c d) e = two_equal same_place place_eq
 conjunct_equal (OtherPlace a b) (OtherPlace c d) e = two_equal same_place place_equal OtherPlace a b c d e
 conjunct_equal (Written x) (Written y) e = ap Written (var_equal x y e)
 conjunct_equal (Unwritten x) (Unwritten y) e = ap Unwritten (var_equal x y e)
+conjunct_equal (Quotient x p q) (Quotient y r s) e =
+    let b = and_parts (nat_eq x.0 y.0) (same_polynomial p r && same_polynomial q s) e in
+    ap (λ z. Quotient z p q) (var_equal x y b.0) ∙ two_equal same_polynomial polynomial_equal (Quotient y) p q r s b.1
 conjunct_equal _ _ e = cc
 
 conjunct_itself : (c : Conj) → same_conjunct c c ≡ true
@@ -131,6 +141,7 @@ conjunct_itself (SamePlace a b) = and_from _ _ (place_itself a) (place_itself b)
 conjunct_itself (OtherPlace a b) = and_from _ _ (place_itself a) (place_itself b)
 conjunct_itself (Written x) = number_itself x.0
 conjunct_itself (Unwritten x) = number_itself x.0
+conjunct_itself (Quotient x p q) = and_from _ _ (number_itself x.0) (and_from _ _ (polynomial_itself p) (polynomial_itself q))
 
 pub tests_decide : TestsDecide
 tests_decide = record {

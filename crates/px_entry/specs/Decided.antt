@@ -7,7 +7,7 @@ use Rattle.px_terms.specs.declared.variables.VarInfo.{VarInfo}
 use Rattle.px_terms.specs.declared.conjuncts.Place.{Place}
 use Rattle.px_terms.specs.declared.conjuncts.Place.TheVariants as place
 use Rattle.px_terms.specs.declared.conjuncts.Conj.{Conj}
-use Rattle.px_terms.specs.declared.conjuncts.Conj.TheVariants.{Equal, Unequal, Less, AtMost, SamePlace, OtherPlace, Written, Unwritten}
+use Rattle.px_terms.specs.declared.conjuncts.Conj.TheVariants.{Equal, Unequal, Less, AtMost, SamePlace, OtherPlace, Written, Unwritten, Quotient}
 use Rattle.px_entry.specs.Sorts.{is_made, is_well_sorted, is_long_conjunct}
 use Rattle.px_entry.specs.Equality.{same_conjunct}
 
@@ -45,6 +45,7 @@ decided vars (SamePlace a b) = is_same_place vars a b
 decided vars (OtherPlace a b) = option_map not (is_same_place vars a b)
 decided vars (Written x) = None
 decided vars (Unwritten x) = None
+decided vars (Quotient x p q) = None
 
 abbrev pub is_true : Option Bool → Bool
 is_true None = false

@@ -5,7 +5,7 @@ use Rattle.px_terms.specs.Polynomials.{Polynomial}
 use Rattle.px_terms.specs.declared.conjuncts.Place.{Place}
 use Rattle.px_terms.specs.declared.conjuncts.Place.TheVariants as place
 use Rattle.px_terms.specs.declared.conjuncts.Conj.{Conj}
-use Rattle.px_terms.specs.declared.conjuncts.Conj.TheVariants.{Equal, Unequal, Less, AtMost, SamePlace, OtherPlace, Written, Unwritten}
+use Rattle.px_terms.specs.declared.conjuncts.Conj.TheVariants.{Equal, Unequal, Less, AtMost, SamePlace, OtherPlace, Written, Unwritten, Quotient}
 
 -- the same list, by a test of its items
 abbrev pub same_list : {A : Type 0} → (A → A → Bool) → List A → List A → Bool
@@ -35,4 +35,5 @@ same_conjunct (SamePlace a b) (SamePlace c d) = same_place a c && same_place b d
 same_conjunct (OtherPlace a b) (OtherPlace c d) = same_place a c && same_place b d
 same_conjunct (Written x) (Written y) = nat_eq x.0 y.0
 same_conjunct (Unwritten x) (Unwritten y) = nat_eq x.0 y.0
+same_conjunct (Quotient x p q) (Quotient y r s) = nat_eq x.0 y.0 && (same_polynomial p r && same_polynomial q s)
 same_conjunct _ _ = false

@@ -10,12 +10,12 @@ use Rattle.px_terms.specs.declared.variables.VarInfo.{VarInfo}
 use Rattle.px_terms.specs.declared.conjuncts.Content.{Content}
 use Rattle.px_terms.specs.declared.conjuncts.Content.TheVariants as content
 use Rattle.px_terms.specs.declared.conjuncts.Conj.{Conj}
-use Rattle.px_terms.specs.declared.conjuncts.Conj.TheVariants.{Written, Unwritten}
+use Rattle.px_terms.specs.declared.conjuncts.Conj.TheVariants.{Equal, Unequal, Less, AtMost, SamePlace, OtherPlace, Written, Unwritten, Quotient}
 use Rattle.px_entry.specs.declared.atoms.Atom.{Atom}
 use Rattle.px_entry.specs.declared.atoms.AtomState.{AtomState}
 use Rattle.px_entry.specs.declared.atoms.AtomState.TheVariants.{Live, Freed}
 use Rattle.px_entry.specs.declared.entries.Entry.{Entry}
-use Rattle.px_entry.specs.Sorts.{is_given_sort, is_cell_sort, is_input_sort, is_made_sort, is_int_type, is_given, is_cell, has_type, is_well_sorted}
+use Rattle.px_entry.specs.Sorts.{is_given_sort, is_cell_sort, is_input_sort, is_made_sort, is_int_type, is_given, is_cell, is_input, has_type, is_well_sorted}
 use Rattle.px_entry.specs.Equality.{same_conjunct}
 use Rattle.px_entry.specs.Contents.{is_cell_of, fits_cell, fits_some_type, fit_each, content_variables, cell_variables}
 use Rattle.px_entry.specs.Constraint.{found_atoms, made_atoms}
@@ -83,6 +83,20 @@ same_blocks [] (b ∷ bs) = false
 same_blocks (a ∷ rest) [] = false
 same_blocks (a ∷ rest) (b ∷ bs) = nat_eq a.place.0 b.place.0 && nat_eq a.block.0 b.block.0 && same_blocks rest bs
 
+-- ---- quotients
+
+-- a quotient is an input: it is a word that the run itself gives
+abbrev pub is_quotient_input : List VarInfo → Conj → Bool
+is_quotient_input vars (Equal p) = true
+is_quotient_input vars (Unequal p) = true
+is_quotient_input vars (Less p q) = true
+is_quotient_input vars (AtMost p q) = true
+is_quotient_input vars (SamePlace a b) = true
+is_quotient_input vars (OtherPlace a b) = true
+is_quotient_input vars (Written x) = true
+is_quotient_input vars (Unwritten x) = true
+is_quotient_input vars (Quotient x p q) = is_input vars x.0
+
 -- ---- what was written
 
 -- the variables that a conjunct uses as words or places, or says to be written
@@ -136,12 +150,14 @@ is_post_regular types x =
     && same_blocks x.pre (found_atoms x.vars x.post)
     && each_once (λ i. is_made_sort i.sort) (map (λ (a : Atom). a.place.0) (made_atoms x.vars x.post)) 0 x.vars
 
--- conjuncts and result use variables by their types, and cells that are used are said to be written
+-- Conjuncts and result use variables by their types, cells that are used are said to be written, and quotients are
+-- inputs.
 abbrev pub are_terms_regular : Entry → Bool
 are_terms_regular x =
     list_all (is_well_sorted x.vars) x.pure
     && is_result x.vars x.result
     && list_all (is_used_written x) (used_variables x)
+    && list_all (is_quotient_input x.vars) x.pure
 
 -- An entry is regular, of a procedure with n parameters: this is what a call tests of it.
 abbrev pub is_regular : List BlockType → ℕ → Entry → Bool

@@ -14,7 +14,7 @@ use Rattle.px_terms.specs.declared.variables.VarInfo.{VarInfo}
 use Rattle.px_terms.specs.declared.conjuncts.Place.{Place}
 use Rattle.px_terms.specs.declared.conjuncts.Place.TheVariants as place
 use Rattle.px_terms.specs.declared.conjuncts.Conj.{Conj}
-use Rattle.px_terms.specs.declared.conjuncts.Conj.TheVariants.{Equal, Unequal, Less, AtMost, SamePlace, OtherPlace, Written, Unwritten}
+use Rattle.px_terms.specs.declared.conjuncts.Conj.TheVariants.{Equal, Unequal, Less, AtMost, SamePlace, OtherPlace, Written, Unwritten, Quotient}
 
 -- ---- sorts and types
 
@@ -72,6 +72,9 @@ is_given vars x = is_variable_with vars (λ i. is_given_sort i.sort) x
 abbrev pub is_cell : List VarInfo → ℕ → Bool
 is_cell vars x = is_variable_with vars (λ i. is_cell_sort i.sort) x
 
+abbrev pub is_input : List VarInfo → ℕ → Bool
+is_input vars x = is_variable_with vars (λ i. is_input_sort i.sort) x
+
 abbrev pub is_made : List VarInfo → ℕ → Bool
 is_made vars x = is_variable_with vars (λ i. is_made_sort i.sort) x
 
@@ -111,6 +114,7 @@ is_well_sorted vars (SamePlace a b) = is_pointer_place vars a && is_pointer_plac
 is_well_sorted vars (OtherPlace a b) = is_pointer_place vars a && is_pointer_place vars b
 is_well_sorted vars (Written x) = nat_lt x.0 (length vars)
 is_well_sorted vars (Unwritten x) = nat_lt x.0 (length vars)
+is_well_sorted vars (Quotient x p q) = is_int vars x.0 && (is_int_polynomial vars p && is_int_polynomial vars q)
 
 -- too many monomials, or one of too high a degree: a polynomial that can't be kept
 abbrev pub is_long : Polynomial → Bool
@@ -125,3 +129,4 @@ is_long_conjunct (SamePlace a b) = false
 is_long_conjunct (OtherPlace a b) = false
 is_long_conjunct (Written x) = false
 is_long_conjunct (Unwritten x) = false
+is_long_conjunct (Quotient x p q) = is_long p || is_long q

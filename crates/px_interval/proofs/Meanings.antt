@@ -11,7 +11,7 @@ use Rattle.px_terms.specs.Conjuncts.{IsTrueUnder, HasWords}
 use Rattle.px_terms.specs.Rules.{IsConstant, IsVariable, IsUnitSum, BoundsVariable}
 use Rattle.px_terms.specs.declared.types.Value.TheVariants as value
 use Rattle.px_terms.specs.declared.conjuncts.Conj.{Conj}
-use Rattle.px_terms.specs.declared.conjuncts.Conj.TheVariants.{Equal, Unequal, Less, AtMost, SamePlace, OtherPlace, Written, Unwritten}
+use Rattle.px_terms.specs.declared.conjuncts.Conj.TheVariants.{Equal, Unequal, Less, AtMost, SamePlace, OtherPlace, Written, Unwritten, Quotient}
 use Rattle.px_terms.proofs.WordLaws.{words_are_signed}
 use Rattle.px_interval.specs.declared.bounds.Form.{Form}
 use Rattle.px_interval.specs.declared.bounds.Form.TheVariants as form
@@ -245,3 +245,4 @@ means (SamePlace a b) = λ x h. h
 means (OtherPlace a b) = λ x h. h
 means (Written y) = λ x h. h
 means (Unwritten y) = λ x h. h
+means (Quotient y p q) = λ x h. h

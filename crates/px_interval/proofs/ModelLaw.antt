@@ -8,7 +8,7 @@ use Rattle.px_terms.specs.Valuations.{Valuation, numbers_of, number_of}
 use Rattle.px_terms.specs.Conjuncts.{IsTrueUnder, HasWords}
 use Rattle.px_terms.specs.Rules.{IsConstant, IsVariable, BoundsVariable}
 use Rattle.px_terms.specs.declared.conjuncts.Conj.{Conj}
-use Rattle.px_terms.specs.declared.conjuncts.Conj.TheVariants.{Equal, Unequal, Less, AtMost, SamePlace, OtherPlace, Written, Unwritten}
+use Rattle.px_terms.specs.declared.conjuncts.Conj.TheVariants.{Equal, Unequal, Less, AtMost, SamePlace, OtherPlace, Written, Unwritten, Quotient}
 use Rattle.px_terms.proofs.WordLaws.{words_are_signed}
 use Rattle.px_interval.specs.Laws.{RuledOutHaveNoModel}
 use Rattle.px_interval.proofs.Forms.{unit}
@@ -58,6 +58,7 @@ module _ (v : Valuation) (x : ℕ) (z : ℤ) (same : word z ≡ number_of (v x) 
   within (OtherPlace a b) h k = absurd k
   within (Written y) h k = absurd k
   within (Unwritten y) h k = absurd k
+  within (Quotient y p q) h k = absurd k
 
 pub ruled_out : RuledOutHaveNoModel
 ruled_out = record {

@@ -10,7 +10,7 @@ use Rattle.px_terms.specs.Conjuncts.{IsTrueUnder}
 use Rattle.px_terms.specs.Rules.{BoundsVariable, IsWithinBounds, IntervalRulesOut, RulesOut}
 use Rattle.px_terms.specs.Polynomials.{Polynomial}
 use Rattle.px_terms.specs.declared.conjuncts.Conj.{Conj}
-use Rattle.px_terms.specs.declared.conjuncts.Conj.TheVariants.{Equal, Unequal, Less, AtMost, SamePlace, OtherPlace, Written, Unwritten}
+use Rattle.px_terms.specs.declared.conjuncts.Conj.TheVariants.{Equal, Unequal, Less, AtMost, SamePlace, OtherPlace, Written, Unwritten, Quotient}
 use Rattle.px_terms.proofs.WordLaws.{words_are_signed}
 use Rattle.px_interval.specs.declared.bounds.Bound.{Bound}
 use Rattle.px_interval.specs.declared.gaps.Gap.{Gap}
@@ -157,6 +157,7 @@ low_bound (SamePlace a b) = tt
 low_bound (OtherPlace a b) = tt
 low_bound (Written y) = tt
 low_bound (Unwritten y) = tt
+low_bound (Quotient y p q) = tt
 
 gaps_places : (o : Option Bound) → IsLow o → All IsPlace (gaps_if o)
 gaps_places None h = All-nil IsPlace

@@ -3,7 +3,7 @@
 use Rattle.std.specs.Prelude.{ℕ, ◌+◌, ◌-◌, ◌%◌, ◌^◌, ◌<◌, ◌≤◌, List, [], ◌∷◌, Bool, true, false, Option, Some, None, cond, nat_eq}
 use Rattle.px_terms.specs.Terms.{Term}
 use Rattle.px_terms.specs.declared.conjuncts.Conj.{Conj}
-use Rattle.px_terms.specs.declared.conjuncts.Conj.TheVariants.{Equal, Unequal, Less, AtMost, SamePlace, OtherPlace, Written, Unwritten}
+use Rattle.px_terms.specs.declared.conjuncts.Conj.TheVariants.{Equal, Unequal, Less, AtMost, SamePlace, OtherPlace, Written, Unwritten, Quotient}
 use Rattle.px_interval.specs.declared.bounds.Form.{Form}
 use Rattle.px_interval.specs.declared.bounds.Form.TheVariants as form
 use Rattle.px_interval.specs.declared.bounds.Side.{Side}
@@ -87,3 +87,4 @@ bound_of (SamePlace a b) = None
 bound_of (OtherPlace a b) = None
 bound_of (Written x) = None
 bound_of (Unwritten x) = None
+bound_of (Quotient x p q) = None

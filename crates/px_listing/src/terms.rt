@@ -128,6 +128,7 @@ pub fn put_conjunct(alloc: Global, out: &mut Vec<u8>, conjunct: &Conj) -> Result
         Conj::OtherPlace(a, b) => put_of_places(alloc, out, b"OtherPlace(", *a, *b),
         Conj::Written(x) => put_of_variable(alloc, out, b"Written(", *x),
         Conj::Unwritten(x) => put_of_variable(alloc, out, b"Unwritten(", *x),
+        Conj::Quotient(x, p, q) => put_quotient(alloc, out, *x, p, q),
     }
 }
 
@@ -149,6 +150,18 @@ fn put_of_two(
     put(out, b", ")?;
     put_polynomial(alloc, out, q)?;
     put(out, b")")
+}
+
+fn put_quotient(
+    alloc: Global,
+    out: &mut Vec<u8>,
+    x: Var,
+    p: &Poly,
+    q: &Poly,
+) -> Result<(), NoMemory> {
+    put(out, b"Quotient(")?;
+    put_variable(alloc, out, x)?;
+    put_of_two(alloc, out, b", ", p, q)
 }
 
 fn put_of_places(

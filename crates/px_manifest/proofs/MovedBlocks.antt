@@ -1,8 +1,8 @@
 -- Values whose blocks are moved to other numbers, and what stays true of them.
-use Rattle.std.proofs.Common.{◌≡◌, ℕ, ◌+◌, refl, sym, ap, ◌∙◌, subst, arith}
+use Rattle.std.proofs.Common.{◌≡◌, ℕ, ◌+◌, refl, sym, ap, ◌∙◌, subst, arith, ◌%◌, ◌^◌, ap₂}
 use mathlib.Core.Path.{fun_ext}
 use Rattle.std.specs.Prelude.{◌<ℤ◌, ◌≤ℤ◌}
-use Rattle.px_terms.specs.Words.{signed}
+use Rattle.px_terms.specs.Words.{signed, word_quotient}
 use Rattle.px_terms.specs.Polynomials.{Polynomial, value_of}
 use Rattle.px_terms.specs.Valuations.{Valuation, IsWord, IsPlace, IsBlock, IsUnwritten, number_of, HasType, FitsSort}
 use Rattle.px_terms.specs.Conjuncts.{HasWords, word_of, place_of, IsTrueUnder}
@@ -144,3 +144,5 @@ module _ (by : ℕ) where
         ((is_place a h.0.0, is_place b h.0.1), λ e. h.1 (moved_apart (place_of v a) (place_of v b) (sym (same_place a) ∙ e ∙ same_place b)))
     still_true (conjunct.Written x) h = λ u. h (was_unwritten (v x.0) u)
     still_true (conjunct.Unwritten x) h = still_unwritten (v x.0) h
+    still_true (conjunct.Quotient x p q) h =
+        (still_word (v x.0) h.0, have_words p h.1, have_words q h.2, (λ e. h.3.0 (same_word q ∙ e), ap (λ n. n % 2 ^ 32) (same_number (v x.0)) ∙ h.3.1 ∙ ap₂ word_quotient (same_word p) (same_word q)))

@@ -2,6 +2,7 @@ ghost use Rattle.std.specs.Prelude.{◌≡◌, ◌↔◌, not, true};
 ghost use Rattle.std.specs.List.{list_all};
 ghost use Rattle.px_terms.specs.Variables.{variables_of, place_variables};
 ghost use Rattle.px_terms.specs.Monomials.{term_of};
+ghost use Rattle.px_terms.specs.declared.conjuncts.Conj.TheVariants.{Quotient};
 ghost use Rattle.px_entry.specs.Sorts as sorts;
 ghost use Rattle.px_check.specs.Answers.{entry_of};
 ghost use Rattle.px_manifest.specs.LooksManifest.{AsksNothing, LooksManifest};
@@ -9,7 +10,7 @@ ghost use Rattle.px_manifest.specs.LooksManifest as spec;
 
 use px_check::Checked;
 use px_entry::{Atom, Entry, Exit};
-use px_terms::{Conj, Monomial, Place, Poly, Sort, VarInfo};
+use px_terms::{Conj, Monomial, Place, Poly, Sort, Var, VarInfo};
 
 /// Whether an entry ends in its error whatever it is called with, as far as it shows. That its own values make its
 /// conjuncts true isn't asked: what was checked has such values. Takes no memory.
@@ -76,7 +77,15 @@ fn mentions_none_given(vars: &[VarInfo], c: &Conj) -> bool
             is_none_given(vars, *a) && is_none_given(vars, *b)
         }
         Conj::Written(x) | Conj::Unwritten(x) => !is_given(vars, x.0),
+        Conj::Quotient(x, p, q) => quotient_has_none_given(vars, *x, p, q),
     }
+}
+
+// Whether no variable of a quotient is given.
+fn quotient_has_none_given(vars: &[VarInfo], x: Var, p: &Poly, q: &Poly) -> bool
+    ensures { result ≡ spec.mentions_none_given vars.now (Quotient x p.now q.now) }
+{
+    !is_given(vars, x.0) && has_none_given(vars, p) && has_none_given(vars, q)
 }
 
 // Whether no variable of a polynomial is given.

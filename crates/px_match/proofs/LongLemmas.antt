@@ -6,7 +6,7 @@ use Rattle.px_terms.specs.Terms.{Term}
 use Rattle.px_terms.specs.Polynomials.{Polynomial}
 use Rattle.px_terms.specs.declared.variables.VarInfo.{VarInfo}
 use Rattle.px_terms.specs.declared.conjuncts.Conj.{Conj}
-use Rattle.px_terms.specs.declared.conjuncts.Conj.TheVariants.{Equal, Unequal, Less, AtMost, SamePlace, OtherPlace, Written, Unwritten}
+use Rattle.px_terms.specs.declared.conjuncts.Conj.TheVariants.{Equal, Unequal, Less, AtMost, SamePlace, OtherPlace, Written, Unwritten, Quotient}
 use Rattle.px_entry.specs.Sorts.{is_long, is_long_conjunct}
 use Rattle.px_entry.specs.Equality.{same_conjunct}
 use Rattle.px_entry.specs.Decided.{word_of, compared, is_less, is_at_most, decided, is_true, stands_in, assume}
@@ -23,6 +23,7 @@ long_terms (SamePlace a b) = refl
 long_terms (OtherPlace a b) = refl
 long_terms (Written x) = refl
 long_terms (Unwritten x) = refl
+long_terms (Quotient x p q) = ap (λ z. is_long p || z) (or-false (is_long q))
 
 -- a polynomial that is too long isn't a word
 no_word : (k : ℕ) (ms : List Term) → is_long (record { constant = k; monomials = ms }) ≡ true → word_of (record { constant = k; monomials = ms }) ≡ None
@@ -50,6 +51,7 @@ long_undecided vars (SamePlace a b) e = cc
 long_undecided vars (OtherPlace a b) e = cc
 long_undecided vars (Written x) e = refl
 long_undecided vars (Unwritten x) e = refl
+long_undecided vars (Quotient x p q) e = refl
 
 none_stands : (pure : List Conj) (c : Conj) (b : Bool) → is_long_conjunct c ≡ b → b ≡ true → stands_in pure c ≡ false
 none_stands pure c true l e = ap (λ z. not z && list_any (same_conjunct c) pure) l

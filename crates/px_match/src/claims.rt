@@ -6,7 +6,7 @@ ghost use Rattle.px_callgraph.specs.Renaming as spec;
 ghost use Rattle.px_callgraph.specs.Renaming.{Claim};
 ghost use Rattle.px_match.specs.Through.{IsRead, IsClaimed};
 
-use crate::contents::place_through;
+use crate::contents::{place_through, variable_in};
 use crate::is_open;
 use crate::words::{Read, find, word_through};
 use px_terms::{Conj, Content, NoMemory, Place, Var, VarInfo};
@@ -57,6 +57,11 @@ pub fn claim_through(
         }
         Conj::Written(x) => Ok(written(find(substitution, x.0))),
         Conj::Unwritten(x) => Ok(unwritten(find(substitution, x.0))),
+        Conj::Quotient(x, p, q) => Ok(quotient(
+            variable_in(find(substitution, x.0)),
+            word_through(substitution, p)?,
+            word_through(substitution, q)?,
+        )),
     }
 }
 
@@ -96,6 +101,25 @@ fn at_most(p: Read, q: Read) -> Claimed
     match (p, q) {
         (Read::NoWord, _) | (_, Read::NoWord) => Claimed::Never,
         (Read::Word(p), Read::Word(q)) => Claimed::Claims(Conj::AtMost(p, q)),
+        _ => Claimed::Long,
+    }
+}
+
+fn quotient(x: Option<Var>, p: Read, q: Read) -> Claimed
+    ensures { (o u : Option Polynomial) → IsRead p o → IsRead q u → IsClaimed result (spec.quotient_claim x o u) }
+{
+    match x {
+        None => Claimed::Never,
+        Some(x) => quotient_of(x, p, q),
+    }
+}
+
+fn quotient_of(x: Var, p: Read, q: Read) -> Claimed
+    ensures { (o u : Option Polynomial) → IsRead p o → IsRead q u → IsClaimed result (spec.claim_two (conjunct.Quotient x) o u) }
+{
+    match (p, q) {
+        (Read::NoWord, _) | (_, Read::NoWord) => Claimed::Never,
+        (Read::Word(p), Read::Word(q)) => Claimed::Claims(Conj::Quotient(x, p, q)),
         _ => Claimed::Long,
     }
 }

@@ -1,6 +1,7 @@
 ghost use Rattle.std.specs.Prelude.{◌≡◌, Option, map, flat_map, IfOk};
 ghost use Rattle.std.specs.Option.{option_copied};
 ghost use Rattle.px_terms.specs.Polynomials.{Polynomial};
+ghost use Rattle.px_terms.specs.Monomials.{term_of};
 ghost use Rattle.px_terms.specs.declared.conjuncts.Content.TheVariants as content;
 ghost use Rattle.px_callgraph.specs.Operations.{word_terms};
 ghost use Rattle.px_callgraph.specs.Renaming as spec;
@@ -8,7 +9,7 @@ ghost use Rattle.px_match.specs.Through.{IsRead, IsThrough};
 
 use crate::words::{Read, find, word_through};
 use px_entry::AtomState;
-use px_terms::{ByValue, Content, Items, NoMemory, Place, Var};
+use px_terms::{ByValue, Content, Items, Monomial, NoMemory, Place, Poly, Var};
 use std::alloc::Global;
 
 // The place of a content; that of an unread cell is its variable.
@@ -18,6 +19,49 @@ fn place_in(content: Option<&Content>) -> Option<Place>
     match content {
         Some(Content::Place(place)) => Some(*place),
         Some(Content::Cell(y)) => Some(Place::Var(*y)),
+        _ => None,
+    }
+}
+
+// The variable that a polynomial is.
+fn variable_of(p: &Poly) -> Option<Var>
+    ensures { result ≡ spec.variable_of p.now }
+{
+    if p.constant() != 0 {
+        return None;
+    }
+    variable_in_sum(p.monomials())
+}
+
+fn variable_in_sum(monomials: &[Monomial<4>]) -> Option<Var>
+    ensures { result ≡ spec.variable_in_sum (map term_of monomials.now) }
+{
+    match monomials {
+        [m] => variable_among(m),
+        _ => None,
+    }
+}
+
+fn variable_among(m: &Monomial<4>) -> Option<Var>
+    ensures { result ≡ spec.variable_among (term_of m.now).coefficient (term_of m.now).vars }
+{
+    let [x] = m.vars() else {
+        return None;
+    };
+    if m.coefficient() == 1 {
+        Some(Var(*x))
+    } else {
+        None
+    }
+}
+
+// The variable that a content is, as a word; that of an unread cell is its variable.
+pub(crate) fn variable_in(content: Option<&Content>) -> Option<Var>
+    ensures { result ≡ spec.variable_in (option_copied content.entry) }
+{
+    match content {
+        Some(Content::Word(p)) => variable_of(p),
+        Some(Content::Cell(y)) => Some(*y),
         _ => None,
     }
 }

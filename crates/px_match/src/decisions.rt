@@ -1,4 +1,4 @@
-ghost use Rattle.std.specs.Prelude.{◌≡◌, ◌||◌, not, false, [], option_map};
+ghost use Rattle.std.specs.Prelude.{◌≡◌, ◌&&◌, ◌||◌, not, false, [], option_map};
 ghost use Rattle.std.specs.List.{list_all, list_any};
 ghost use Rattle.px_terms.specs.declared.conjuncts.Conj.TheVariants.{Equal};
 ghost use Rattle.px_terms.specs.Monomials.{term_of};
@@ -38,6 +38,12 @@ fn are_all_ints(vars: &[VarInfo], monomials: &[Monomial<4>]) -> bool
     monomials.iter().all(|m| are_ints(vars, m.vars()))
 }
 
+fn are_int_polynomials(vars: &[VarInfo], p: &Poly, q: &Poly) -> bool
+    ensures { result ≡ (sorts.is_int_polynomial vars.now p.now && sorts.is_int_polynomial vars.now q.now) }
+{
+    is_int_polynomial(vars, p) && is_int_polynomial(vars, q)
+}
+
 // Whether a place is null or a pointer of the list.
 fn is_pointer_place(vars: &[VarInfo], place: Place) -> bool
     ensures { result ≡ sorts.is_pointer_place vars.now place }
@@ -54,13 +60,12 @@ pub fn is_well_sorted(vars: &[VarInfo], c: &Conj) -> bool
 {
     match c {
         Conj::Equal(p) | Conj::Unequal(p) => is_int_polynomial(vars, p),
-        Conj::Less(p, q) | Conj::AtMost(p, q) => {
-            is_int_polynomial(vars, p) && is_int_polynomial(vars, q)
-        }
+        Conj::Less(p, q) | Conj::AtMost(p, q) => are_int_polynomials(vars, p, q),
         Conj::SamePlace(a, b) | Conj::OtherPlace(a, b) => {
             is_pointer_place(vars, *a) && is_pointer_place(vars, *b)
         }
         Conj::Written(x) | Conj::Unwritten(x) => (x.0 as usize) < vars.len(),
+        Conj::Quotient(x, p, q) => { is_int(vars, x.0) && are_int_polynomials(vars, p, q) }
     }
 }
 
@@ -142,7 +147,7 @@ fn decided(vars: &[VarInfo], c: &Conj) -> Option<bool>
         Conj::AtMost(p, q) => is_at_most(p, q),
         Conj::SamePlace(a, b) => is_same_place(vars, *a, *b),
         Conj::OtherPlace(a, b) => negated(is_same_place(vars, *a, *b)),
-        Conj::Written(_) | Conj::Unwritten(_) => None,
+        Conj::Written(_) | Conj::Unwritten(_) | Conj::Quotient(_, _, _) => None,
     }
 }
 
@@ -159,7 +164,7 @@ fn keep_conjunct_short(c: &Conj)
 {
     match c {
         Conj::Equal(p) | Conj::Unequal(p) => keep_short(p),
-        Conj::Less(p, q) | Conj::AtMost(p, q) => {
+        Conj::Less(p, q) | Conj::AtMost(p, q) | Conj::Quotient(_, p, q) => {
             keep_short(p);
             keep_short(q);
         }

@@ -8,7 +8,7 @@ use Rattle.px_terms.specs.Valuations.{Valuation, numbers_of, number_of}
 use Rattle.px_terms.specs.Conjuncts.{IsTrueUnder}
 use Rattle.px_terms.specs.Rules.{IsVariable, IsDifference, HoldsInIntegers}
 use Rattle.px_terms.specs.declared.conjuncts.Conj.{Conj}
-use Rattle.px_terms.specs.declared.conjuncts.Conj.TheVariants.{Equal, Unequal, Less, AtMost, SamePlace, OtherPlace, Written, Unwritten}
+use Rattle.px_terms.specs.declared.conjuncts.Conj.TheVariants.{Equal, Unequal, Less, AtMost, SamePlace, OtherPlace, Written, Unwritten, Quotient}
 use Rattle.px_order.specs.Laws.{RuledOutHaveNoModel}
 use Rattle.px_terms.proofs.DomainLemmas.{equal_words, equal_turned}
 
@@ -44,6 +44,7 @@ module _ (v : Valuation) where
   true_holds (OtherPlace a b) h = tt
   true_holds (Written x) h = tt
   true_holds (Unwritten x) h = tt
+  true_holds (Quotient x p q) h = tt
 
 pub ruled_out : RuledOutHaveNoModel
 ruled_out = record { none = λ cs r v t. r (integer v) (λ k d l. true_holds v (get_or cs k d) (t k d l)) }

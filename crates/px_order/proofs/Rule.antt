@@ -8,7 +8,7 @@ use Rattle.px_terms.specs.Rules.{HoldsInIntegers, RulesOut}
 use Rattle.px_terms.specs.Conjuncts.{IsWellSorted}
 use Rattle.px_terms.specs.declared.variables.VarInfo.{VarInfo}
 use Rattle.px_terms.specs.declared.conjuncts.Conj.{Conj}
-use Rattle.px_terms.specs.declared.conjuncts.Conj.TheVariants.{Equal, Unequal, Less, AtMost, SamePlace, OtherPlace, Written, Unwritten}
+use Rattle.px_terms.specs.declared.conjuncts.Conj.TheVariants.{Equal, Unequal, Less, AtMost, SamePlace, OtherPlace, Written, Unwritten, Quotient}
 use Rattle.px_components.specs.Graphs.{IsEdge, Reaches, stays, steps, AreComponents}
 use Rattle.px_order.specs.declared.comparisons.Comparison.{Comparison}
 use Rattle.px_order.specs.Comparisons.{IsOrdered, Holds, IsBelow, ComparesBelow, IsCompared, comparison_at, IsStrictWithin}
@@ -25,6 +25,7 @@ compares_below vars (SamePlace a b) h = tt
 compares_below vars (OtherPlace a b) h = tt
 compares_below vars (Written x) h = tt
 compares_below vars (Unwritten x) h = tt
+compares_below vars (Quotient x p q) h = tt
 
 pub all_below : (vars : List VarInfo) (conjuncts : List Conj) → All (IsWellSorted vars) conjuncts → All (ComparesBelow (length vars)) conjuncts
 all_below vars conjuncts h = λ k d l. compares_below vars (get_or conjuncts k d) (h k d l)

@@ -4,7 +4,7 @@ use Rattle.px_terms.specs.Terms.{Term}
 use Rattle.px_terms.specs.Variables.{variables_of}
 use Rattle.px_terms.specs.Rules.{HoldsInIntegers}
 use Rattle.px_terms.specs.declared.conjuncts.Conj.{Conj}
-use Rattle.px_terms.specs.declared.conjuncts.Conj.TheVariants.{Equal, Unequal, Less, AtMost, SamePlace, OtherPlace, Written, Unwritten}
+use Rattle.px_terms.specs.declared.conjuncts.Conj.TheVariants.{Equal, Unequal, Less, AtMost, SamePlace, OtherPlace, Written, Unwritten, Quotient}
 use Rattle.px_order.specs.declared.comparisons.Comparison.{Comparison}
 
 -- a number as a term, with the variable x
@@ -34,6 +34,7 @@ ComparesBelow n (SamePlace a b) = ⊤
 ComparesBelow n (OtherPlace a b) = ⊤
 ComparesBelow n (Written x) = ⊤
 ComparesBelow n (Unwritten x) = ⊤
+ComparesBelow n (Quotient x p q) = ⊤
 
 -- a conjunct more is read: the comparisons say what those before say, and what the conjunct says
 pub record Adds (conjunct : Conj) (old new : List Comparison) : Type 0 where

@@ -10,7 +10,7 @@ use Rattle.px_terms.specs.Conjuncts.{IsWellSorted, AreWellSorted}
 use Rattle.px_terms.specs.Rules.{HoldsModuloTwo}
 use Rattle.px_terms.specs.declared.variables.VarInfo.{VarInfo}
 use Rattle.px_terms.specs.declared.conjuncts.Conj.{Conj}
-use Rattle.px_terms.specs.declared.conjuncts.Conj.TheVariants.{Equal, Unequal, Less, AtMost, SamePlace, OtherPlace, Written, Unwritten}
+use Rattle.px_terms.specs.declared.conjuncts.Conj.TheVariants.{Equal, Unequal, Less, AtMost, SamePlace, OtherPlace, Written, Unwritten, Quotient}
 use Rattle.px_parity.specs.declared.elimination.Pivot.{Pivot}
 use Rattle.px_parity.specs.declared.elimination.Mark.{Mark}
 use Rattle.px_parity.specs.declared.elimination.Mark.TheVariants.{Implied, Added, Refuted}
@@ -77,6 +77,7 @@ mentioned_in_columns (SamePlace a b) h = tt
 mentioned_in_columns (OtherPlace a b) h = tt
 mentioned_in_columns (Written y) h = tt
 mentioned_in_columns (Unwritten y) h = tt
+mentioned_in_columns (Quotient x p q) h = tt
 
 sorted_in_columns : (vars : List VarInfo) → length vars ≤ 65536 → (c : Conj) → IsWellSorted vars c → IsInColumns c
 sorted_in_columns vars few (Equal p) h = terms_below p.monomials (λ k d l. let m = int_below vars (get_or (variables_of p) k d) (h k d l) in omega arith)
@@ -87,6 +88,7 @@ sorted_in_columns vars few (SamePlace a b) h = tt
 sorted_in_columns vars few (OtherPlace a b) h = tt
 sorted_in_columns vars few (Written y) h = tt
 sorted_in_columns vars few (Unwritten y) h = tt
+sorted_in_columns vars few (Quotient x p q) h = tt
 
 pub columns_at : (vars : List VarInfo) (cs : List Conj) (i : ℕ) (c : Conj) → AreWellSorted vars cs → i < length cs → c ≡ get_or cs i c → IsInColumns c
 columns_at vars cs i c h l e = sorted_in_columns vars h.few_variables c (subst (IsWellSorted vars) (sym e) (h.sorted i c l))

@@ -2,7 +2,7 @@
 use Rattle.std.specs.Prelude.{◌≡◌, ◌↔◌, ℕ, zero, suc, ◌+◌, ◌*◌, ◌/◌, ◌%◌, ◌-◌, ◌<◌, ◌≤◌, List, [], ◌∷◌, Bool, true, false, All, length, take, nat_eq, ⊤}
 use Rattle.px_terms.specs.Terms.{Term, value_at}
 use Rattle.px_terms.specs.declared.conjuncts.Conj.{Conj}
-use Rattle.px_terms.specs.declared.conjuncts.Conj.TheVariants.{Equal, Unequal, Less, AtMost, SamePlace, OtherPlace, Written, Unwritten}
+use Rattle.px_terms.specs.declared.conjuncts.Conj.TheVariants.{Equal, Unequal, Less, AtMost, SamePlace, OtherPlace, Written, Unwritten, Quotient}
 use Rattle.px_parity.specs.declared.elimination.Pivot.{Pivot}
 use Rattle.px_parity.specs.declared.elimination.Mark.{Mark}
 use Rattle.px_parity.specs.declared.elimination.Mark.TheVariants.{Implied, Added, Refuted}
@@ -79,3 +79,4 @@ IsInColumns (SamePlace a b) = ⊤
 IsInColumns (OtherPlace a b) = ⊤
 IsInColumns (Written y) = ⊤
 IsInColumns (Unwritten y) = ⊤
+IsInColumns (Quotient x p q) = ⊤

@@ -13,7 +13,7 @@ use Rattle.px_terms.specs.declared.variables.Sort.TheVariants.{Given}
 use Rattle.px_terms.specs.declared.conjuncts.Place.{Place}
 use Rattle.px_terms.specs.declared.conjuncts.Place.TheVariants as place
 use Rattle.px_terms.specs.declared.conjuncts.Conj.{Conj}
-use Rattle.px_terms.specs.declared.conjuncts.Conj.TheVariants.{Equal, Unequal, Less, AtMost, SamePlace, OtherPlace, Written, Unwritten}
+use Rattle.px_terms.specs.declared.conjuncts.Conj.TheVariants.{Equal, Unequal, Less, AtMost, SamePlace, OtherPlace, Written, Unwritten, Quotient}
 use Rattle.px_plain.specs.declared.nodes.Node.{Node}
 use Rattle.px_plain.specs.declared.nodes.Difference.{Difference}
 use Rattle.px_plain.specs.Forest.{node_at, parent_at}
@@ -48,6 +48,7 @@ module _ (w : ℕ → ℕ) (g : ℕ → ℕ) where
   image_one (OtherPlace a b) h d e = subst (IfEqual image) (same_Some (same_or_other a b false) d e) (λ q. absurd (never_both false q refl))
   image_one (Written x) h d e = absurd (none-some d e)
   image_one (Unwritten x) h d e = absurd (none-some d e)
+  image_one (Quotient x p q) h d e = absurd (none-some d e)
 
   pub image_kept : (cs : List Conj) → KeepsPlaces w cs → AllEqual image (place_differences cs)
   image_kept cs h =
@@ -140,6 +141,7 @@ says (SamePlace a b) x e = absurd (none-some (x + 1) e)
 says (OtherPlace a b) x e = absurd (none-some (x + 1) e)
 says (Written y) x e = absurd (none-some (x + 1) e)
 says (Unwritten y) x e = let f = same_Some (y.0 + 1) (x + 1) e in omega arith
+says (Quotient y p q) x e = absurd (none-some (x + 1) e)
 
 said : (cs : List Conj) (x : ℕ) → Contains (unwritten_nodes cs) (x + 1) → IsSaidUnwritten cs x
 said cs x (k, l, e) =

@@ -12,7 +12,7 @@ use Rattle.px_terms.specs.declared.types.Value.{Value}
 use Rattle.px_terms.specs.declared.types.ValueType.TheVariants.{Int}
 use Rattle.px_terms.specs.declared.variables.VarInfo.{VarInfo}
 use Rattle.px_terms.specs.declared.conjuncts.Conj.{Conj}
-use Rattle.px_terms.specs.declared.conjuncts.Conj.TheVariants.{Equal, Unequal, Less, AtMost, SamePlace, OtherPlace, Written, Unwritten}
+use Rattle.px_terms.specs.declared.conjuncts.Conj.TheVariants.{Equal, Unequal, Less, AtMost, SamePlace, OtherPlace, Written, Unwritten, Quotient}
 use Rattle.px_plain.specs.declared.nodes.Node.{Node}
 use Rattle.px_plain.specs.declared.nodes.Difference.{Difference}
 use Rattle.px_plain.specs.Forest.{node_at, parent_at, IsAbove, Keeps}
@@ -49,6 +49,7 @@ plain_keeps v cs m k d l = one (get_or cs k d) (m k d l)
     one (OtherPlace a b) h = tt
     one (Written x) h = tt
     one (Unwritten x) h = tt
+    one (Quotient x p q) h = tt
 
 pub model_keeps : (vars : List VarInfo) (cs : List Conj) (vs : List Value) → IsPlainModel vars cs vs → KeepsTies (numbers_of (valuation_of vs)) cs
 model_keeps vars cs vs m = plain_keeps (valuation_of vs) cs m.plain
@@ -66,6 +67,7 @@ broken_one u P (SamePlace x y) d e r a b h = none-some d e
 broken_one u P (OtherPlace x y) d e r a b h = none-some d e
 broken_one u P (Written x) d e r a b h = none-some d e
 broken_one u P (Unwritten x) d e r a b h = none-some d e
+broken_one u P (Quotient x p q) d e r a b h = none-some d e
 
 module _ (cs : List Conj) (t : List Node) (f : IsForestOf (word_differences cs) t) where
   null_parent : 0 < length t → parent_at t 0 ≡ 0
@@ -98,6 +100,7 @@ module _ (cs : List Conj) (t : List Node) (f : IsForestOf (word_differences cs) 
   touched_both (OtherPlace x y) d r s some e ends inside = absurd (none-some d e)
   touched_both (Written x) d r s some e ends inside = absurd (none-some d e)
   touched_both (Unwritten x) d r s some e ends inside = absurd (none-some d e)
+  touched_both (Quotient x p q) d r s some e ends inside = absurd (none-some d e)
 
   abbrev Settled : ℕ → ℕ → Type 0
   Settled r x = IsFixed cs x ⊎ ((s : ℕ) × (s ≤ r) × HasRepresentative cs x s)

@@ -14,7 +14,7 @@ use Rattle.px_terms.specs.declared.variables.VarInfo.{VarInfo}
 use Rattle.px_terms.specs.declared.conjuncts.Place.{Place}
 use Rattle.px_terms.specs.declared.conjuncts.Place.TheVariants as place
 use Rattle.px_terms.specs.declared.conjuncts.Conj.{Conj}
-use Rattle.px_terms.specs.declared.conjuncts.Conj.TheVariants.{Equal, Unequal, Less, AtMost, SamePlace, OtherPlace, Written, Unwritten}
+use Rattle.px_terms.specs.declared.conjuncts.Conj.TheVariants.{Equal, Unequal, Less, AtMost, SamePlace, OtherPlace, Written, Unwritten, Quotient}
 use Rattle.px_plain.specs.declared.nodes.Difference.{Difference}
 use Rattle.px_plain.specs.Readings.{of_sum, word_difference, place_difference, unwritten_node, written_node, word_differences, place_differences, unwritten_nodes, written_nodes, node_of, same_or_other, HasSmallVariables}
 use Rattle.px_plain.specs.NodeValues.{IsWrittenNode, IsUnwrittenNode, IsTrueOfWords, IsTrueOfPlaces, Satisfies, IsIntNode, IsPointerNode, AreSorted}
@@ -58,6 +58,7 @@ module _ (vars : List VarInfo) where
   word_ends (OtherPlace a b) h d e = absurd (none-some d e)
   word_ends (Written x) h d e = absurd (none-some d e)
   word_ends (Unwritten x) h d e = absurd (none-some d e)
+  word_ends (Quotient x p q) h d e = absurd (none-some d e)
 
   pointer_end : (a : Place) → IsPointerPlace vars a → IsPointerNode vars (node_of a)
   pointer_end place.Null h y e = absurd (omega arith)
@@ -78,6 +79,7 @@ module _ (vars : List VarInfo) where
   place_ends (OtherPlace a b) h d e = same_ends a b false h.0 h.1 d e
   place_ends (Written x) h d e = absurd (none-some d e)
   place_ends (Unwritten x) h d e = absurd (none-some d e)
+  place_ends (Quotient x p q) h d e = absurd (none-some d e)
 
   abbrev pub IsVariableNode : ℕ → Type 0
   IsVariableNode u = (x : ℕ) × (u ≡ x + 1) × (x < length vars)
@@ -91,6 +93,7 @@ module _ (vars : List VarInfo) where
   unwritten_variable (OtherPlace a b) h u e = absurd (none-some u e)
   unwritten_variable (Written x) h u e = absurd (none-some u e)
   unwritten_variable (Unwritten x) h u e = (x.0, sym (same_Some (x.0 + 1) u e), h)
+  unwritten_variable (Quotient x p q) h u e = absurd (none-some u e)
 
   pub written_inside : (c : Conj) → IsWellSorted vars c → (u : ℕ) → written_node c ≡ Some u → u < length vars + 1
   written_inside (Equal p) h u e = absurd (none-some u e)
@@ -101,6 +104,7 @@ module _ (vars : List VarInfo) where
   written_inside (OtherPlace a b) h u e = absurd (none-some u e)
   written_inside (Written x) h u e = let f = same_Some (x.0 + 1) u e in let l : x.0 < length vars = h in omega arith
   written_inside (Unwritten x) h u e = absurd (none-some u e)
+  written_inside (Quotient x p q) h u e = absurd (none-some u e)
 
   pub sorted_parts : (cs : List Conj) → All (IsWellSorted vars) cs → AreSorted vars (word_differences cs) (place_differences cs) (unwritten_nodes cs) (written_nodes cs)
   sorted_parts cs h =
@@ -138,6 +142,7 @@ module _ (vars : List VarInfo) where
   small_one few (OtherPlace a b) h = (small_place few a h.0, small_place few b h.1)
   small_one few (Written x) h = let l : x.0 < length vars = h in omega arith
   small_one few (Unwritten x) h = let l : x.0 < length vars = h in omega arith
+  small_one few (Quotient x p q) h = tt
 
   pub small_all : (cs : List Conj) → AreWellSorted vars cs → All HasSmallVariables cs
   small_all cs w = All-weaker (IsWellSorted vars) HasSmallVariables (small_one w.few_variables) cs w.sorted

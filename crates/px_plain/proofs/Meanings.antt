@@ -16,7 +16,7 @@ use Rattle.px_terms.specs.declared.variables.VarInfo.{VarInfo}
 use Rattle.px_terms.specs.declared.conjuncts.Place.{Place}
 use Rattle.px_terms.specs.declared.conjuncts.Place.TheVariants as place
 use Rattle.px_terms.specs.declared.conjuncts.Conj.{Conj}
-use Rattle.px_terms.specs.declared.conjuncts.Conj.TheVariants.{Equal, Unequal, Less, AtMost, SamePlace, OtherPlace, Written, Unwritten}
+use Rattle.px_terms.specs.declared.conjuncts.Conj.TheVariants.{Equal, Unequal, Less, AtMost, SamePlace, OtherPlace, Written, Unwritten, Quotient}
 use Rattle.px_plain.specs.declared.nodes.Difference.{Difference}
 use Rattle.px_plain.specs.Readings.{of_sum, word_difference, place_difference, unwritten_node, written_node, node_of, same_or_other}
 use Rattle.px_plain.specs.NodeValues.{words_at, places_at, place_number, IsWrittenNode, IsUnwrittenNode, IsTrueOfWords, IsTrueOfPlaces}
@@ -233,6 +233,7 @@ module _ (vars : List VarInfo) (v : Valuation) where
     unwritten = λ u e y q. at_variable IsUnwritten x.0 y (h tt) (same_Some (x.0 + 1) u e ∙ q);
     written = λ u e. absurd (none-some u e);
   }
+  true_parts f (Quotient x p q) h = record { word = λ d e. absurd (none-some d e); place = λ d e. absurd (none-some d e); unwritten = λ u e. absurd (none-some u e); written = λ u e. absurd (none-some u e) }
 
   pub parts_true : Fits vars v → (c : Conj) → IsWellSorted vars c → PartsTrue v c → IsPlain c → IsTrueUnder v c
   parts_true f (Equal p) w h k = parts_equal f p w h.word k
@@ -243,3 +244,4 @@ module _ (vars : List VarInfo) (v : Valuation) where
   parts_true f (OtherPlace a b) w h k = parts_other f a b w (h.place (same_or_other a b false) refl)
   parts_true f (Written x) w h k = h.written (x.0 + 1) refl x.0 refl
   parts_true f (Unwritten x) w h k = h.unwritten (x.0 + 1) refl x.0 refl
+  parts_true f (Quotient x p q) w h k = absurd k

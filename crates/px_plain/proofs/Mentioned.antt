@@ -1,5 +1,5 @@
 -- A well-sorted conjunct mentions variables of the list alone.
-use Rattle.std.proofs.Common.{ℕ, ◌<◌, List, [], length}
+use Rattle.std.proofs.Common.{ℕ, ◌<◌, ◌++◌, List, [], length}
 use Rattle.std.specs.Prelude.{All}
 use Rattle.std.proofs.lemmas.List.Elements.{All-nil, All-cons, All-append, All-weaker}
 use Rattle.px_terms.specs.Polynomials.{Polynomial}
@@ -9,7 +9,7 @@ use Rattle.px_terms.specs.declared.variables.VarInfo.{VarInfo}
 use Rattle.px_terms.specs.declared.conjuncts.Place.{Place}
 use Rattle.px_terms.specs.declared.conjuncts.Place.TheVariants as place
 use Rattle.px_terms.specs.declared.conjuncts.Conj.{Conj}
-use Rattle.px_terms.specs.declared.conjuncts.Conj.TheVariants.{Equal, Unequal, Less, AtMost, SamePlace, OtherPlace, Written, Unwritten}
+use Rattle.px_terms.specs.declared.conjuncts.Conj.TheVariants.{Equal, Unequal, Less, AtMost, SamePlace, OtherPlace, Written, Unwritten, Quotient}
 use Rattle.px_plain.proofs.Lists.{pointer_inside}
 use Rattle.px_terms.proofs.DomainLemmas.{int_below}
 
@@ -33,3 +33,5 @@ module _ (vars : List VarInfo) where
   mentioned_inside (OtherPlace a b) h = All-append Inside (place_variables a) (place_variables b) (of_place a h.0) (of_place b h.1)
   mentioned_inside (Written x) h = All-cons Inside x.0 [] h (All-nil Inside)
   mentioned_inside (Unwritten x) h = All-cons Inside x.0 [] h (All-nil Inside)
+  mentioned_inside (Quotient x p q) h =
+      All-cons Inside x.0 (variables_of p ++ variables_of q) (int_below vars x.0 h.0) (All-append Inside (variables_of p) (variables_of q) (of_sum p h.1) (of_sum q h.2))

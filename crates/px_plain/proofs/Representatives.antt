@@ -5,7 +5,7 @@ use Rattle.std.proofs.lemmas.Bool.{cases_eq, cases_lt, eq-eqb, ne_eqb}
 use Rattle.std.proofs.lemmas.List.{get_or_default}
 use Rattle.std.proofs.lemmas.Option.{none-some}
 use Rattle.px_terms.specs.declared.conjuncts.Conj.{Conj}
-use Rattle.px_terms.specs.declared.conjuncts.Conj.TheVariants.{Equal, Unequal, Less, AtMost, SamePlace, OtherPlace, Written, Unwritten}
+use Rattle.px_terms.specs.declared.conjuncts.Conj.TheVariants.{Equal, Unequal, Less, AtMost, SamePlace, OtherPlace, Written, Unwritten, Quotient}
 use Rattle.px_plain.specs.declared.nodes.Node.{Node}
 use Rattle.px_plain.specs.declared.nodes.Difference.{Difference}
 use Rattle.px_plain.specs.Forest.{node_at, parent_at, Keeps}
@@ -41,6 +41,7 @@ module _ (w : ℕ → ℕ) where
   kept_one (OtherPlace a b) h d e = absurd (none-some d e)
   kept_one (Written x) h d e = absurd (none-some d e)
   kept_one (Unwritten x) h d e = absurd (none-some d e)
+  kept_one (Quotient x p q) h d e = absurd (none-some d e)
 
   one_kept : (c : Conj) → ((d : Difference) → word_difference c ≡ Some d → IfEqual (at_nodes w) d) → KeepsTie w c
   one_kept (Equal p) h = λ k.
@@ -54,6 +55,7 @@ module _ (w : ℕ → ℕ) where
   one_kept (OtherPlace a b) h = tt
   one_kept (Written x) h = tt
   one_kept (Unwritten x) h = tt
+  one_kept (Quotient x p q) h = tt
 
   pub nodes_keep : (cs : List Conj) → KeepsTies w cs → AllEqual (at_nodes w) (word_differences cs)
   nodes_keep cs h =

@@ -16,7 +16,7 @@ use Rattle.px_terms.specs.declared.variables.Sort.TheVariants.{Made, Given}
 use Rattle.px_terms.specs.declared.conjuncts.Place.{Place}
 use Rattle.px_terms.specs.declared.conjuncts.Place.TheVariants as place
 use Rattle.px_terms.specs.declared.conjuncts.Conj.{Conj}
-use Rattle.px_terms.specs.declared.conjuncts.Conj.TheVariants.{Equal, Unequal, Less, AtMost, SamePlace, OtherPlace, Written, Unwritten}
+use Rattle.px_terms.specs.declared.conjuncts.Conj.TheVariants.{Equal, Unequal, Less, AtMost, SamePlace, OtherPlace, Written, Unwritten, Quotient}
 use Rattle.px_plain.specs.declared.claims.Mark.TheVariants as mark
 use Rattle.px_plain.specs.declared.claims.Step.TheVariants as step
 use Rattle.px_plain.specs.Models.{IsPlainlyRefuted}
@@ -72,6 +72,7 @@ module _ (vars : List VarInfo) (info : VarInfo) where
   sorted_more (OtherPlace a b) h = (place_more a h.0, place_more b h.1)
   sorted_more (Written x) h = inside_more x.0 h
   sorted_more (Unwritten x) h = inside_more x.0 h
+  sorted_more (Quotient x p q) h = (int_more x.0 h.0, ints_more p h.1, ints_more q h.2)
 
   -- ---- what fits more variables fits fewer
 

@@ -4,7 +4,7 @@ use Rattle.px_terms.specs.Terms.{Term}
 use Rattle.px_terms.specs.declared.conjuncts.Place.{Place}
 use Rattle.px_terms.specs.declared.conjuncts.Place.TheVariants as place
 use Rattle.px_terms.specs.declared.conjuncts.Conj.{Conj}
-use Rattle.px_terms.specs.declared.conjuncts.Conj.TheVariants.{Equal, Unequal, Less, AtMost, SamePlace, OtherPlace, Written, Unwritten}
+use Rattle.px_terms.specs.declared.conjuncts.Conj.TheVariants.{Equal, Unequal, Less, AtMost, SamePlace, OtherPlace, Written, Unwritten, Quotient}
 use Rattle.px_plain.specs.declared.nodes.Difference.{Difference}
 use Rattle.px_plain.specs.declared.nodes.SignedVar.{SignedVar}
 use Rattle.px_plain.specs.declared.nodes.SignedVar.TheVariants.{Plus, Minus}
@@ -59,6 +59,7 @@ word_difference (SamePlace a b) = None
 word_difference (OtherPlace a b) = None
 word_difference (Written x) = None
 word_difference (Unwritten x) = None
+word_difference (Quotient x p q) = None
 
 abbrev pub node_of : Place → ℕ
 node_of place.Null = 0
@@ -77,6 +78,7 @@ place_difference (SamePlace a b) = Some (same_or_other a b true)
 place_difference (OtherPlace a b) = Some (same_or_other a b false)
 place_difference (Written x) = None
 place_difference (Unwritten x) = None
+place_difference (Quotient x p q) = None
 
 -- the node that `Unwritten` names
 abbrev pub unwritten_node : Conj → Option ℕ
@@ -88,6 +90,7 @@ unwritten_node (SamePlace a b) = None
 unwritten_node (OtherPlace a b) = None
 unwritten_node (Written x) = None
 unwritten_node (Unwritten x) = Some (x.0 + 1)
+unwritten_node (Quotient x p q) = None
 
 -- the node that `Written` names
 abbrev pub written_node : Conj → Option ℕ
@@ -99,6 +102,7 @@ written_node (SamePlace a b) = None
 written_node (OtherPlace a b) = None
 written_node (Written x) = Some (x.0 + 1)
 written_node (Unwritten x) = None
+written_node (Quotient x p q) = None
 
 -- ---- small variables
 
@@ -116,6 +120,7 @@ HasSmallVariables (SamePlace a b) = (node_of a ≤ 65536) × (node_of b ≤ 6553
 HasSmallVariables (OtherPlace a b) = (node_of a ≤ 65536) × (node_of b ≤ 65536)
 HasSmallVariables (Written x) = x.0 < 65536
 HasSmallVariables (Unwritten x) = x.0 < 65536
+HasSmallVariables (Quotient x p q) = ⊤
 
 -- ---- lists
 

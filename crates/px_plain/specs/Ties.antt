@@ -2,7 +2,7 @@
 -- and which they tie to one another. Each fact speaks of all words, or of all places, that the
 -- equalities allow.
 use Rattle.std.specs.Prelude.{◌≡◌, ◌≢◌, ℕ, ◌+◌, ◌%◌, ◌^◌, ◌<◌, ◌≤◌, ◌⊎◌, ◌<ℤ◌, ◌≤ℤ◌, List, All, Any, Some, slice_get, ⊤}
-use Rattle.px_terms.specs.Words.{signed}
+use Rattle.px_terms.specs.Words.{signed, IsQuotient}
 use Rattle.px_terms.specs.Polynomials.{value_of}
 use Rattle.px_terms.specs.Variables.{mentioned}
 use Rattle.px_terms.specs.Conjuncts.{IsPlainSum, IsPlain}
@@ -10,7 +10,7 @@ use Rattle.px_terms.specs.declared.variables.VarInfo.{VarInfo}
 use Rattle.px_terms.specs.declared.conjuncts.Place.{Place}
 use Rattle.px_terms.specs.declared.conjuncts.Place.TheVariants as place
 use Rattle.px_terms.specs.declared.conjuncts.Conj.{Conj}
-use Rattle.px_terms.specs.declared.conjuncts.Conj.TheVariants.{Equal, Unequal, Less, AtMost, SamePlace, OtherPlace, Written, Unwritten}
+use Rattle.px_terms.specs.declared.conjuncts.Conj.TheVariants.{Equal, Unequal, Less, AtMost, SamePlace, OtherPlace, Written, Unwritten, Quotient}
 
 -- ---- words
 
@@ -24,6 +24,7 @@ IsOnWords (SamePlace a b) = ⊥
 IsOnWords (OtherPlace a b) = ⊥
 IsOnWords (Written x) = ⊥
 IsOnWords (Unwritten x) = ⊥
+IsOnWords (Quotient x p q) = ⊤
 
 -- a conjunct on words is true where its variables have these words
 abbrev pub IsTrueOf : (ℕ → ℕ) → Conj → Type 0
@@ -35,6 +36,7 @@ IsTrueOf w (SamePlace a b) = ⊤
 IsTrueOf w (OtherPlace a b) = ⊤
 IsTrueOf w (Written x) = ⊤
 IsTrueOf w (Unwritten x) = ⊤
+IsTrueOf w (Quotient x p q) = IsQuotient (w x.0 % 2 ^ 32) (value_of w p) (value_of w q)
 
 -- where the conjunct is a plain equality of words, it is true of these
 abbrev pub KeepsTie : (ℕ → ℕ) → Conj → Type 0
@@ -46,6 +48,7 @@ KeepsTie w (SamePlace a b) = ⊤
 KeepsTie w (OtherPlace a b) = ⊤
 KeepsTie w (Written x) = ⊤
 KeepsTie w (Unwritten x) = ⊤
+KeepsTie w (Quotient x p q) = ⊤
 
 -- the words keep the plain equalities
 abbrev pub KeepsTies : (ℕ → ℕ) → List Conj → Type 0
@@ -114,6 +117,7 @@ KeepsPlace w (SamePlace a b) = number_at w a ≡ number_at w b
 KeepsPlace w (OtherPlace a b) = ⊤
 KeepsPlace w (Written x) = ⊤
 KeepsPlace w (Unwritten x) = ⊤
+KeepsPlace w (Quotient x p q) = ⊤
 
 abbrev pub KeepsPlaces : (ℕ → ℕ) → List Conj → Type 0
 KeepsPlaces w conjuncts = All (KeepsPlace w) conjuncts
@@ -154,6 +158,7 @@ SaysUnwritten x (SamePlace a b) = ⊥
 SaysUnwritten x (OtherPlace a b) = ⊥
 SaysUnwritten x (Written y) = ⊥
 SaysUnwritten x (Unwritten y) = y.0 ≡ x
+SaysUnwritten x (Quotient y p q) = ⊥
 
 -- some conjunct says so
 abbrev pub IsSaidUnwritten : List Conj → ℕ → Type 0

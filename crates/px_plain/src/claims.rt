@@ -91,6 +91,6 @@ pub(crate) fn claim_of(conjunct: &Conj) -> Claim
         },
         Conj::Written(x) => Claim::Written(x.0 + 1),
         Conj::Unwritten(x) => Claim::Unwritten(x.0 + 1),
-        Conj::Less(_, _) | Conj::AtMost(_, _) => Claim::Nothing,
+        Conj::Less(_, _) | Conj::AtMost(_, _) | Conj::Quotient(_, _, _) => Claim::Nothing,
     }
 }

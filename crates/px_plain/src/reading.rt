@@ -189,7 +189,7 @@ pub fn is_plain(conjunct: &Conj) -> bool
 {
     match conjunct {
         Conj::Equal(_) | Conj::Unequal(_) => word_difference(conjunct).is_some(),
-        Conj::Less(_, _) | Conj::AtMost(_, _) => false,
+        Conj::Less(_, _) | Conj::AtMost(_, _) | Conj::Quotient(_, _, _) => false,
         _ => true,
     }
 }

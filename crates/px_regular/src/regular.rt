@@ -9,7 +9,7 @@ use crate::blocks::{
     is_each_made_once, made_places, point_to_blocks,
 };
 use crate::uses::are_uses_written;
-use crate::variables::{are_given, are_inputs_words};
+use crate::variables::{are_given, are_inputs_words, is_input};
 use px_entry::Entry;
 use px_match::{is_int_polynomial, is_pointer, is_well_sorted};
 use px_terms::{BlockType, Conj, Content, NoMemory, Place, VarInfo};
@@ -83,7 +83,31 @@ fn is_result(vars: &[VarInfo], given: &Option<Content>) -> bool
     }
 }
 
-// Whether conjuncts and result use variables by their types, and what is used is said to be written.
+// Whether a quotient is an input.
+fn is_quotient_input(vars: &[VarInfo], c: &Conj) -> bool
+    ensures { result ≡ spec.is_quotient_input vars.now c.now }
+{
+    match c {
+        Conj::Quotient(x, _, _) => is_input(vars, x.0),
+        Conj::Equal(_)
+        | Conj::Unequal(_)
+        | Conj::Less(_, _)
+        | Conj::AtMost(_, _)
+        | Conj::SamePlace(_, _)
+        | Conj::OtherPlace(_, _)
+        | Conj::Written(_)
+        | Conj::Unwritten(_) => true,
+    }
+}
+
+fn are_quotients_inputs(vars: &[VarInfo], pure: &[Conj]) -> bool
+    ensures { result ≡ list_all (spec.is_quotient_input vars.now) pure.now }
+{
+    pure.iter().all(|c| is_quotient_input(vars, c))
+}
+
+// Whether conjuncts and result use variables by their types, what is used is said to be written, and quotients are
+// inputs.
 fn are_terms_regular(entry: &Entry) -> bool
     ensures { result ≡ spec.are_terms_regular entry.now }
 {
@@ -91,6 +115,7 @@ fn are_terms_regular(entry: &Entry) -> bool
     are_well_sorted(vars, entry.pure.as_slice())
         && is_result(vars, &entry.result)
         && are_uses_written(entry)
+        && are_quotients_inputs(vars, entry.pure.as_slice())
 }
 
 fn are_variables_regular(arguments: usize, entry: &Entry) -> bool

@@ -2,7 +2,7 @@ ghost use Rattle.std.specs.Prelude.{◌≡◌, ◌&&◌};
 ghost use Rattle.std.specs.List.{list_all};
 ghost use Rattle.px_terms.specs.Monomials.{term_of};
 ghost use Rattle.px_terms.specs.Variables.{variables_of, place_variables};
-ghost use Rattle.px_terms.specs.declared.conjuncts.Conj.TheVariants.{Written};
+ghost use Rattle.px_terms.specs.declared.conjuncts.Conj.TheVariants.{Written, Quotient};
 ghost use Rattle.px_entry.specs.Equality.{same_conjunct};
 ghost use Rattle.px_entry.specs.Contents.{content_variables};
 ghost use Rattle.px_entry.specs.Regular as spec;
@@ -64,6 +64,15 @@ fn is_place_written(entry: &Entry, place: Place) -> bool
     }
 }
 
+// The same of a quotient and of what it is made of.
+fn is_quotient_written(entry: &Entry, x: Var, p: &Poly, q: &Poly) -> bool
+    ensures { result ≡ list_all (spec.is_used_written entry.now) (spec.used_by_conjunct (Quotient x p.now q.now)) }
+{
+    is_used_written(entry, x.0)
+        && is_polynomial_written(entry, p)
+        && is_polynomial_written(entry, q)
+}
+
 // The same of what a conjunct uses.
 fn is_conjunct_written(entry: &Entry, c: &Conj) -> bool
     ensures { result ≡ list_all (spec.is_used_written entry.now) (spec.used_by_conjunct c.now) }
@@ -78,6 +87,7 @@ fn is_conjunct_written(entry: &Entry, c: &Conj) -> bool
         }
         Conj::Written(x) => is_used_written(entry, x.0),
         Conj::Unwritten(_) => true,
+        Conj::Quotient(x, p, q) => is_quotient_written(entry, *x, p, q),
     }
 }
 

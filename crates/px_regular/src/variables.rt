@@ -40,6 +40,16 @@ pub(crate) fn is_given(vars: &[VarInfo], x: u32) -> bool
     }
 }
 
+// Whether a variable of the list is an input.
+pub(crate) fn is_input(vars: &[VarInfo], x: u32) -> bool
+    ensures { result ≡ sorts.is_input vars.now x }
+{
+    match vars.get(x as usize) {
+        Some(info) => is_input_sort(info.sort),
+        None => false,
+    }
+}
+
 // Whether none is given.
 fn is_none_given(vars: &[VarInfo]) -> bool
     ensures { result ≡ list_all (λ i. not (sorts.is_given_sort i.sort)) vars.now }

@@ -1,7 +1,6 @@
 pub mod OneFollowed
 pub mod LaterWrites
 pub mod Comparisons
-pub mod Quotients
 pub mod TakenNumbers
 pub mod NewCells
 mod ActLemmas

@@ -93,7 +93,6 @@ fn product(x: i32, y: i32) -> i32
 }
 
 // The least word by -1 is itself.
-#[tactic(auto, using(std::proofs::lemmas::Int::wraps, crate::proofs::Quotients::wrapping_div_is))]
 fn quotient(x: i32, y: i32) -> i32
     requires { IsNonZero w32 y }
     ensures { result ≡ int_wrap w32 (int_div x y) }

@@ -1,6 +1,6 @@
 -- The first 24 different words, put one after the other.
 use Rattle.std.proofs.Common.{◌≡◌, ℕ, ◌+◌, ◌<◌, ◌≤◌, ◌++◌, List, [], ◌∷◌, length, length-append, get_or, take, refl, sym, ap, subst, ◌∙◌, arith, inl, inr}
-use Rattle.std.specs.Prelude.{Some, cond, nat_eq, fold, flat_map, option_to_list, slice_get, true, false, Bool}
+use Rattle.std.specs.Prelude.{Option, Some, cond, nat_eq, fold, flat_map, option_to_list, slice_get, true, false, Bool}
 use Rattle.std.specs.List.{list_any}
 use Rattle.std.proofs.lemmas.Bool.{cases_lt}
 use Rattle.std.proofs.lemmas.List.{take_more, take_all, take-append-le}
@@ -8,7 +8,7 @@ use Rattle.std.proofs.lemmas.Grind.{flat_map-append}
 use Rattle.std.proofs.lemmas.List.Sums.{fold-append}
 use Rattle.std.proofs.lemmas.Option.{slice_get-get_or}
 use Rattle.px_terms.specs.declared.conjuncts.Conj.{Conj}
-use Rattle.px_solver.specs.Candidates.{put_new, distinct, end_words, around, constants_of, words_of, candidates}
+use Rattle.px_solver.specs.Candidates.{put_new, distinct, end_words, around, constants_of, quotients_of, constant_words, words_of, candidates}
 use Rattle.px_solver.specs.Tables.{put_few, picked}
 use Rattle.px_terms.proofs.Tests.{lt_true, lt_false}
 
@@ -42,8 +42,8 @@ fold_few_take seen (x ∷ xs) = ap (λ z. fold put_few z xs) (put_few_take seen 
 pub few_distinct : (xs : List ℕ) → fold put_few [] xs ≡ take 24 (distinct xs)
 few_distinct xs = fold_few_take [] xs
 
-pub few_candidates : (cs : List Conj) → length (candidates cs) ≤ 24
-few_candidates cs = let e = Rattle.std.proofs.Common.length-take 24 (distinct (words_of cs)) in omega arith
+pub few_candidates : (fixed : ℕ → Option ℕ) (cs : List Conj) → length (candidates fixed cs) ≤ 24
+few_candidates fixed cs = let e = Rattle.std.proofs.Common.length-take 24 (distinct (words_of fixed cs)) in omega arith
 
 -- ---- conjunct by conjunct
 
@@ -67,3 +67,21 @@ put_more cs is i c vs l b e q =
   where
     one : (xs : List ℕ) → xs ++ [] ≡ xs
     one xs = Rattle.std.proofs.Common.append-nil xs
+
+-- ---- quotients, conjunct by conjunct
+
+pub put_quotients_more : (fixed : ℕ → Option ℕ) (cs : List Conj) (is : List ℕ) (i : ℕ) (c : Conj) (old vs : List ℕ) → i < length is → get_or is i 0 < length cs → c ≡ get_or cs (get_or is i 0) c →
+    vs ≡ fold put_few old (flat_map (quotients_of fixed) (picked cs (take i is))) →
+    fold put_few vs (quotients_of fixed c) ≡ fold put_few old (flat_map (quotients_of fixed) (picked cs (take (i + 1) is)))
+put_quotients_more fixed cs is i c old vs l b e q =
+    let before = picked cs (take i is) in
+    ap (λ z. fold put_few z (quotients_of fixed c)) q
+    ∙ sym (fold-append put_few old (flat_map (quotients_of fixed) before) (quotients_of fixed c))
+    ∙ ap (fold put_few old) (ap (λ z. flat_map (quotients_of fixed) before ++ z) (sym (Rattle.std.proofs.Common.append-nil (quotients_of fixed c))) ∙ sym (flat_map-append (quotients_of fixed) before (c ∷ [])))
+    ∙ ap (λ z. fold put_few old (flat_map (quotients_of fixed) z)) (sym (picked_more cs is i c l b e))
+
+pub words_put : (fixed : ℕ → Option ℕ) (cs : List Conj) (old new : List ℕ) → old ≡ fold put_few [] (constant_words cs) → new ≡ fold put_few old (flat_map (quotients_of fixed) cs) → new ≡ candidates fixed cs
+words_put fixed cs old new e q =
+    q ∙ ap (λ z. fold put_few z (flat_map (quotients_of fixed) cs)) e
+    ∙ sym (fold-append put_few [] (constant_words cs) (flat_map (quotients_of fixed) cs))
+    ∙ few_distinct (words_of fixed cs)

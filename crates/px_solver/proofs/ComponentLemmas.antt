@@ -5,7 +5,7 @@ use Rattle.std.proofs.lemmas.Bool.{cases_eq, eq-eqb, ne_eqb}
 use Rattle.std.proofs.lemmas.List.{get_or_default}
 use Rattle.px_terms.specs.Variables.{mentioned}
 use Rattle.px_terms.specs.declared.conjuncts.Conj.{Conj}
-use Rattle.px_terms.specs.declared.conjuncts.Conj.TheVariants.{Equal, Unequal, Less, AtMost, SamePlace, OtherPlace, Written, Unwritten}
+use Rattle.px_terms.specs.declared.conjuncts.Conj.TheVariants.{Equal, Unequal, Less, AtMost, SamePlace, OtherPlace, Written, Unwritten, Quotient}
 use Rattle.px_plain.specs.declared.nodes.Node.{Node}
 use Rattle.px_plain.specs.Forest.{node_at, parent_at, IsFlat, Keeps}
 use Rattle.px_plain.specs.Differences.{IsForestOf}
@@ -67,6 +67,7 @@ words_only (SamePlace a b) h = absurd h
 words_only (OtherPlace a b) h = absurd h
 words_only (Written x) h = absurd h
 words_only (Unwritten x) h = absurd h
+words_only (Quotient x p q) h = refl
 
 on_words : (c : Conj) (k x : ℕ) → k < length (word_variables c) → IsOnWords c × (mentioned c ≡ word_variables c)
 on_words (Equal p) k x l = (tt, refl)
@@ -77,6 +78,7 @@ on_words (SamePlace a b) k x l = absurd (omega arith)
 on_words (OtherPlace a b) k x l = absurd (omega arith)
 on_words (Written y) k x l = absurd (omega arith)
 on_words (Unwritten y) k x l = absurd (omega arith)
+on_words (Quotient y p q) k x l = (tt, refl)
 
 module _ (cs : List Conj) (t : List Node) (f : IsForestOf (word_differences cs) t) (inside : All (λ c. All (λ x. x + 1 < length t) (mentioned c)) cs) where
   pub touched_root : (c : Conj) → All (λ x. x + 1 < length t) (mentioned c) → (r : ℕ) → Touches cs r c → Contains (touched t c) (r + 1)

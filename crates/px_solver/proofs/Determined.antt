@@ -18,13 +18,13 @@ use Rattle.px_terms.specs.declared.variables.Sort.{Sort}
 use Rattle.px_terms.specs.declared.variables.Sort.TheVariants.{Given, Cell, Input, Made}
 use Rattle.px_terms.specs.declared.variables.VarInfo.{VarInfo}
 use Rattle.px_terms.specs.declared.conjuncts.Conj.{Conj}
-use Rattle.px_terms.specs.declared.conjuncts.Conj.TheVariants.{Equal, Unequal, Less, AtMost, SamePlace, OtherPlace, Written, Unwritten}
+use Rattle.px_terms.specs.declared.conjuncts.Conj.TheVariants.{Equal, Unequal, Less, AtMost, SamePlace, OtherPlace, Written, Unwritten, Quotient}
 use Rattle.px_terms.proofs.WordLaws.{words_are_signed}
 use Rattle.px_plain.specs.Ties.{IsTrueOf, KeepsTies, IsTied, IsFixed, HasRepresentative, IsRepresentative, SaysUnwritten, IsSaidUnwritten}
 use Rattle.px_solver.specs.Components.{AreMembers, IsOfComponent, ShareComponent, IsHard, IsHardComponent}
-use Rattle.px_solver.specs.Assignments.{GivesCandidates, Makes, IsFirst, IsSolvedBy, IsUnsolved}
-use Rattle.px_solver.specs.Candidates.{candidates}
+use Rattle.px_solver.specs.Assignments.{GivesCandidates, Makes, IsFirst, AreCandidates, IsSolvedBy, IsUnsolved}
 use Rattle.px_solver.specs.Models.{IsModel, Counts, IsLeastSame, IsNumbered, HasPlace}
+use Rattle.px_solver.proofs.FixedWords.{candidates_once}
 use Rattle.px_solver.proofs.Once.{stable, equal_or_not, Compared, less, same, more, compared, some_least, select_once, count_once, rises_once, Ordered, earlier, equal, later, ordered}
 
 -- ---- representatives
@@ -76,10 +76,12 @@ module _ (cs : List Conj) where
   solved_once w u r a b s rep share =
       let m = members_once r b.members a.members b.are_members a.are_members in
       let c = select_once (IsOfComponent cs r) cs b.conjuncts a.conjuncts b.selects a.selects in
-      let g = subst (λ z. GivesCandidates u (candidates z) a.members b.places) c (subst (λ z. GivesCandidates u (candidates b.conjuncts) z b.places) m b.given) in
-      let f = subst (λ z. IsFirst cs (candidates z) a.members z b.places) c (subst (λ z. IsFirst cs (candidates b.conjuncts) z b.conjuncts b.places) m b.is_first) in
-      let p = first_once (candidates a.conjuncts) a.members a.conjuncts b.places a.places f a.is_first in
-      given_at w u (candidates a.conjuncts) a.members a.places a.given (subst (λ z. GivesCandidates u (candidates a.conjuncts) a.members z) p g) s (a.are_members.all s rep share)
+      let makes = a.is_first.makes in
+      let v = candidates_once cs a.conjuncts b.values a.values (subst (λ z. AreCandidates cs z b.values) c b.are_candidates) a.are_candidates makes.words makes.keep in
+      let g = subst (λ z. GivesCandidates u z a.members b.places) v (subst (λ z. GivesCandidates u b.values z b.places) m b.given) in
+      let f = subst (λ z. IsFirst cs z a.members a.conjuncts b.places) v (subst (λ z. IsFirst cs b.values a.members z b.places) c (subst (λ z. IsFirst cs b.values z b.conjuncts b.places) m b.is_first)) in
+      let p = first_once a.values a.members a.conjuncts b.places a.places f a.is_first in
+      given_at w u a.values a.members a.places a.given (subst (λ z. GivesCandidates u a.values a.members z) p g) s (a.are_members.all s rep share)
 
   -- what is solved doesn't fail
   pub solved_not_failed : (w : ℕ → ℕ) (r : ℕ) → IsSolvedBy cs w r → IsUnsolved cs r → ⊥
@@ -91,11 +93,17 @@ module _ (cs : List Conj) where
       c : a.conjuncts ≡ b.conjuncts
       c = select_once (IsOfComponent cs r) cs a.conjuncts b.conjuncts a.selects b.selects
 
-      by : (3 < length b.members) ⊎ ((places : List ℕ) → ¬ Makes cs (candidates b.conjuncts) b.members b.conjuncts places) → ⊥
+      v : a.values ≡ b.values
+      v =
+          let makes = a.is_first.makes in
+          candidates_once cs b.conjuncts a.values b.values (subst (λ z. AreCandidates cs z a.values) c a.are_candidates) b.are_candidates makes.words makes.keep
+
+      by : (3 < length b.members) ⊎ ((places : List ℕ) → ¬ Makes cs b.values b.members b.conjuncts places) → ⊥
       by (inl l) = let few = a.few in let e : length a.members ≡ length b.members = ap length m in absurd (omega arith)
       by (inr none) = none a.places
-          (subst (λ z. Makes cs (candidates z) b.members z a.places) c
-          (subst (λ z. Makes cs (candidates a.conjuncts) z a.conjuncts a.places) m a.is_first.makes))
+          (subst (λ z. Makes cs z b.members b.conjuncts a.places) v
+          (subst (λ z. Makes cs a.values b.members z a.places) c
+          (subst (λ z. Makes cs a.values z a.conjuncts a.places) m a.is_first.makes)))
 
 -- ---- values
 
@@ -108,6 +116,7 @@ true_of v (SamePlace a b) h = tt
 true_of v (OtherPlace a b) h = tt
 true_of v (Written x) h = tt
 true_of v (Unwritten x) h = tt
+true_of v (Quotient x p q) h = h.3
 
 -- a pointer has no word
 no_word : (s : Sort) (t : TypeId) (a : Value) → FitsSort s (Pointer t) a → number_of a ≡ 0
@@ -165,6 +174,7 @@ says_or_not x (SamePlace a b) = inr (λ h. h)
 says_or_not x (OtherPlace a b) = inr (λ h. h)
 says_or_not x (Written y) = inr (λ h. h)
 says_or_not x (Unwritten y) = equal_or_not y.0 x
+says_or_not x (Quotient y p q) = inr (λ h. h)
 
 pub said_or_not : (cs : List Conj) (x : ℕ) → IsSaidUnwritten cs x ⊎ (¬ IsSaidUnwritten cs x)
 said_or_not [] x = inr (λ (k, c, l, e, s). absurd (omega arith))

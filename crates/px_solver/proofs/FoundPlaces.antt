@@ -18,7 +18,7 @@ use Rattle.px_terms.specs.declared.variables.VarInfo.{VarInfo}
 use Rattle.px_terms.specs.declared.conjuncts.Place.{Place}
 use Rattle.px_terms.specs.declared.conjuncts.Place.TheVariants as place
 use Rattle.px_terms.specs.declared.conjuncts.Conj.{Conj}
-use Rattle.px_terms.specs.declared.conjuncts.Conj.TheVariants.{Equal, Unequal, Less, AtMost, SamePlace, OtherPlace, Written, Unwritten}
+use Rattle.px_terms.specs.declared.conjuncts.Conj.TheVariants.{Equal, Unequal, Less, AtMost, SamePlace, OtherPlace, Written, Unwritten, Quotient}
 use Rattle.px_plain.specs.Models.{IsPlainModel, IsLeastModel}
 use Rattle.px_plain.specs.NodeValues.{place_number}
 use Rattle.px_plain.specs.Ties.{number_at, KeepsPlace, KeepsPlaces, IsSamePlace, IsNullPlace, IsSaidUnwritten}
@@ -142,6 +142,7 @@ module _ (vars : List VarInfo) (cs : List Conj) (model : List Value) (pm : IsPla
       one (OtherPlace a b) h = tt
       one (Written x) h = tt
       one (Unwritten x) h = tt
+      one (Quotient x p q) h = tt
 
   pub same_block : (x y b : ℕ) → IsSamePlace cs x y → v x ≡ value.Block b → v y ≡ value.Block b
   same_block x y b s e = block_from_number (v y) b (sym (s P places_keep) ∙ ap place_number e)

@@ -1,11 +1,12 @@
 -- The final values make every conjunct true, and are the model.
-use Rattle.std.proofs.Common.{◌≡◌, ◌≢◌, ◌⊎◌, inl, inr, ℕ, ◌+◌, ◌%◌, ◌^◌, ◌<◌, ◌≤◌, List, [], ◌∷◌, length, get_or, refl, sym, ap, subst, ◌∙◌, arith}
+use Rattle.std.proofs.Common.{◌≡◌, ◌≢◌, ◌⊎◌, inl, inr, ℕ, ◌+◌, ◌%◌, ◌^◌, ◌<◌, ◌≤◌, ◌++◌, List, [], ◌∷◌, length, get_or, refl, sym, ap, subst, ◌∙◌, arith}
 use Rattle.std.specs.Prelude.{true, false, Some, All, Contains, slice_get, ◌<ℤ◌, ◌≤ℤ◌, ℤ}
 use Rattle.std.specs.List.{AllZip}
 use Rattle.std.proofs.lemmas.Bool.{cases_eq, cases_Bool}
 use Rattle.std.proofs.lemmas.List.{get_or_default}
+use Rattle.std.proofs.lemmas.List.Elements.{All-head, All-tail}
 use Rattle.std.proofs.lemmas.Option.{slice_get-get_or}
-use Rattle.px_terms.specs.Words.{signed}
+use Rattle.px_terms.specs.Words.{signed, word_quotient}
 use Rattle.px_terms.specs.Variables.{variables_of, mentioned}
 use Rattle.px_terms.specs.Polynomials.{value_of}
 use Rattle.px_terms.specs.Valuations.{valuation_of, numbers_of, IsWord, IsPlace, IsUnwritten, Fits}
@@ -16,7 +17,7 @@ use Rattle.px_terms.specs.declared.variables.VarInfo.{VarInfo}
 use Rattle.px_terms.specs.declared.conjuncts.Place.{Place}
 use Rattle.px_terms.specs.declared.conjuncts.Place.TheVariants as place
 use Rattle.px_terms.specs.declared.conjuncts.Conj.{Conj}
-use Rattle.px_terms.specs.declared.conjuncts.Conj.TheVariants.{Equal, Unequal, Less, AtMost, SamePlace, OtherPlace, Written, Unwritten}
+use Rattle.px_terms.specs.declared.conjuncts.Conj.TheVariants.{Equal, Unequal, Less, AtMost, SamePlace, OtherPlace, Written, Unwritten, Quotient}
 use Rattle.px_terms.proofs.Evaluation.{All-left, All-right}
 use Rattle.px_terms.proofs.WordLaws.{signed_order}
 use Rattle.px_plain.specs.declared.nodes.Node.{Node}
@@ -63,6 +64,7 @@ stable w (SamePlace a b) n = tt
 stable w (OtherPlace a b) n = tt
 stable w (Written x) n = tt
 stable w (Unwritten x) n = tt
+stable w (Quotient x p q) n = (λ e. n (λ t. t.0 e), elim (cases_eq (w x.0 % 2 ^ 32) (word_quotient (value_of w p) (value_of w q))) [ inl e ↦ e | inr d ↦ absurd (n (λ t. d t.1)) ])
 
 of_words : (v : ℕ → Value) (c : Conj) → IsTrueUnder v c → IsTrueOf (numbers_of v) c
 of_words v (Equal p) h = h.1
@@ -73,6 +75,7 @@ of_words v (SamePlace a b) h = tt
 of_words v (OtherPlace a b) h = tt
 of_words v (Written x) h = tt
 of_words v (Unwritten x) h = tt
+of_words v (Quotient x p q) h = h.3
 
 to_words : (v : ℕ → Value) (c : Conj) → IsOnWords c → All (λ x. IsWord (v x)) (mentioned c) → IsTrueOf (numbers_of v) c → IsTrueUnder v c
 to_words v (Equal p) w a h = (a, h)
@@ -83,6 +86,9 @@ to_words v (SamePlace a b) w x h = absurd w
 to_words v (OtherPlace a b) w x h = absurd w
 to_words v (Written x) w a h = absurd w
 to_words v (Unwritten x) w a h = absurd w
+to_words v (Quotient x p q) w a h =
+    let rest = All-tail (λ x. IsWord (v x)) x.0 (variables_of p ++ variables_of q) a in
+    (All-head (λ x. IsWord (v x)) x.0 (variables_of p ++ variables_of q) a, All-left (λ x. IsWord (v x)) (variables_of p) (variables_of q) rest, All-right (λ x. IsWord (v x)) (variables_of p) (variables_of q) rest, h)
 
 final_place : (a : Value) (w : ℕ) (r : ℕ → ℕ) → IsPlace a → IsPlace (final_value w r a) × (final_value w r a ≡ final_value 0 r a)
 final_place (value.Word z) w r h = absurd h
@@ -301,6 +307,7 @@ module _ (vars : List VarInfo) (cs : List Conj) (sorted : AreWellSorted vars cs)
       ((p.0, q.0), λ z. u.1 (same_place x y h.0 h.1 u.0.0 u.0.1 (sym p.1 ∙ z ∙ q.1)))
   true_one i (Written x) b e h m = λ z. m tt (final_unwritten (valuation_of model x.0) (under x.0 % 2 ^ 32) (own_below model) (subst IsUnwritten (values_are x.0 h) z))
   true_one i (Unwritten x) b e h m = subst IsUnwritten (sym (values_are x.0 h)) (unwritten_final (valuation_of model x.0) (under x.0 % 2 ^ 32) (own_below model) (m tt))
+  true_one i (Quotient x p q) b e h m = on_words_true i (Quotient x p q) b e tt
 
   pub all_true : All (IsTrueUnder (valuation_of vs)) cs
   all_true i d b = true_one i (get_or cs i d) b (get_or_default cs i (get_or cs i d) d b) (sorted.sorted i d b) (pm.plain i d b)

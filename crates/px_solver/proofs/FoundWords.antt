@@ -1,12 +1,12 @@
 -- The words of the final values.
-use Rattle.std.proofs.Common.{◌≡◌, ◌≢◌, ◌⊎◌, inl, inr, ℕ, ◌+◌, ◌-◌, ◌%◌, ◌^◌, ◌<◌, ◌≤◌, List, length, get_or, refl, sym, ap, subst, ◌∙◌, arith}
+use Rattle.std.proofs.Common.{◌≡◌, ◌≢◌, ◌⊎◌, inl, inr, ℕ, ◌+◌, ◌-◌, ◌%◌, ◌^◌, ◌<◌, ◌≤◌, ◌++◌, List, length, get_or, refl, sym, ap, subst, ◌∙◌, arith}
 use Rattle.std.specs.Prelude.{false, All, Any, nat_eq, slice_get}
 use Rattle.std.specs.Int.{w32}
 use Rattle.std.proofs.lemmas.Int.{of_z-to_z}
 use Rattle.std.specs.List.{AllZip}
 use Rattle.std.proofs.lemmas.Bool.{cases_eq, eq-eqb, ne_eqb}
 use Rattle.std.proofs.lemmas.List.{get_or_default}
-use Rattle.std.proofs.lemmas.List.Elements.{All-append}
+use Rattle.std.proofs.lemmas.List.Elements.{All-cons, All-append}
 use Rattle.px_terms.specs.Variables.{variables_of, mentioned}
 use Rattle.px_terms.specs.Valuations.{valuation_of, numbers_of, number_of, IsWord, IsUnwritten, FitsSort}
 use Rattle.px_terms.specs.Conjuncts.{IsPlain, IsWellSorted, IsIntVariable, IsTrueUnder, AreWellSorted}
@@ -15,7 +15,7 @@ use Rattle.px_terms.specs.declared.types.Value.TheVariants as value
 use Rattle.px_terms.specs.declared.types.ValueType.TheVariants.{Int}
 use Rattle.px_terms.specs.declared.variables.VarInfo.{VarInfo}
 use Rattle.px_terms.specs.declared.conjuncts.Conj.{Conj}
-use Rattle.px_terms.specs.declared.conjuncts.Conj.TheVariants.{Equal, Unequal, Less, AtMost, SamePlace, OtherPlace, Written, Unwritten}
+use Rattle.px_terms.specs.declared.conjuncts.Conj.TheVariants.{Equal, Unequal, Less, AtMost, SamePlace, OtherPlace, Written, Unwritten, Quotient}
 use Rattle.px_plain.specs.declared.nodes.Node.{Node}
 use Rattle.px_plain.specs.Forest.{parent_at, IsFlat}
 use Rattle.px_plain.specs.Differences.{IsForestOf}
@@ -76,6 +76,7 @@ said_unwritten vars cs model m x (k, c, l, e, s) = one c s (subst (λ (d : Conj)
     one (OtherPlace a b) s h = absurd s
     one (Written y) s h = absurd s
     one (Unwritten y) s h = subst (λ z. IsUnwritten (valuation_of model z)) s (h tt)
+    one (Quotient x p q) s h = absurd s
 
 -- the variables of a conjunct on words are ints
 pub mentions_ints : (vars : List VarInfo) (c : Conj) → IsWellSorted vars c → IsOnWords c → All (IsIntVariable vars) (mentioned c)
@@ -87,6 +88,7 @@ mentions_ints vars (SamePlace a b) h w = absurd w
 mentions_ints vars (OtherPlace a b) h w = absurd w
 mentions_ints vars (Written x) h w = absurd w
 mentions_ints vars (Unwritten x) h w = absurd w
+mentions_ints vars (Quotient x p q) h w = All-cons (IsIntVariable vars) x.0 (variables_of p ++ variables_of q) h.0 (All-append (IsIntVariable vars) (variables_of p) (variables_of q) h.1 h.2)
 
 -- a true conjunct on words has words
 has_words : (v : ℕ → Value) (c : Conj) → IsOnWords c → IsTrueUnder v c → All (λ x. IsWord (v x)) (mentioned c)
@@ -98,6 +100,7 @@ has_words v (SamePlace a b) w h = absurd w
 has_words v (OtherPlace a b) w h = absurd w
 has_words v (Written x) w h = absurd w
 has_words v (Unwritten x) w h = absurd w
+has_words v (Quotient x p q) w h = All-cons (λ x. IsWord (v x)) x.0 (variables_of p ++ variables_of q) h.0 (All-append (λ x. IsWord (v x)) (variables_of p) (variables_of q) h.1 h.2)
 
 module _ (vars : List VarInfo) (cs : List Conj) (sorted : AreWellSorted vars cs) (t : List Node) (f : IsForestOf (word_differences cs) t) (size : length t ≡ length vars + 1)
     (inside : All (λ c. All (λ x. x + 1 < length t) (mentioned c)) cs) (small : length t ≤ 65537) (some : 0 < length t)
@@ -177,6 +180,7 @@ module _ (vars : List VarInfo) (cs : List Conj) (sorted : AreWellSorted vars cs)
       one (OtherPlace x y) e h = tt
       one (Written x) e h = tt
       one (Unwritten x) e h = tt
+      one (Quotient x p q) e h = tt
 
   model_ties : KeepsTies W0 cs
   model_ties = model_keeps vars cs model pm

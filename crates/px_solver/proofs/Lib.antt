@@ -9,6 +9,7 @@ pub mod ComponentLemmas
 pub mod MarkLemmas
 pub mod PlaceLemmas
 pub mod SolvingLemmas
+pub mod FixedWords
 pub mod SelectLemmas
 pub mod Solutions
 pub mod ModelLemmas

@@ -2,7 +2,7 @@
 use Rattle.std.proofs.Common.{◌≡◌, ◌⊎◌, inl, inr, ℕ, ◌+◌, ◌<◌, ◌++◌, List, length, get_or, map, sym, subst, arith}
 use Rattle.std.specs.Prelude.{Bool, Some, Any, Contains, slice_get, flat_map}
 use Rattle.std.proofs.lemmas.Bool.{cases_lt}
-use Rattle.std.proofs.lemmas.List.Elements.{All-contains_itself, Contains-append_right}
+use Rattle.std.proofs.lemmas.List.Elements.{All-contains_itself, Contains-append_left, Contains-append_right}
 use Rattle.px_terms.specs.Terms.{Term}
 use Rattle.px_terms.specs.Monomials.{term_of}
 use Rattle.px_terms.specs.declared.monomial.Monomial.{Monomial}
@@ -23,6 +23,9 @@ any_term P ms i m ts l e f (k, x, b, q, p) =
 
 pub any_right : (P : ℕ → Type 0) (xs ys : List ℕ) → Any P ys → Any P (xs ++ ys)
 any_right P xs ys (k, x, l, e, p) = any_of P (xs ++ ys) x (Contains-append_right xs ys x (k, l, e)) p
+
+pub any_left : (P : ℕ → Type 0) (xs ys : List ℕ) → Any P xs → Any P (xs ++ ys)
+any_left P xs ys (k, x, l, e, p) = any_of P (xs ++ ys) x (Contains-append_left xs ys x (k, l, e)) p
 
 -- ---- one conjunct more
 

@@ -9,7 +9,7 @@ use Rattle.std.proofs.lemmas.Option.{get_or_from_slice_get}
 use Rattle.px_terms.specs.Variables.{mentioned}
 use Rattle.px_terms.specs.Conjuncts.{IsPlain}
 use Rattle.px_terms.specs.declared.conjuncts.Conj.{Conj}
-use Rattle.px_terms.specs.declared.conjuncts.Conj.TheVariants.{Equal, Unequal, Less, AtMost, SamePlace, OtherPlace, Written, Unwritten}
+use Rattle.px_terms.specs.declared.conjuncts.Conj.TheVariants.{Equal, Unequal, Less, AtMost, SamePlace, OtherPlace, Written, Unwritten, Quotient}
 use Rattle.px_plain.specs.declared.nodes.Node.{Node}
 use Rattle.px_plain.specs.Forest.{node_at, parent_at, IsFlat}
 use Rattle.px_plain.specs.Differences.{IsForestOf}
@@ -37,6 +37,7 @@ words_of_hard (SamePlace a b) n = absurd (n tt)
 words_of_hard (OtherPlace a b) n = absurd (n tt)
 words_of_hard (Written x) n = absurd (n tt)
 words_of_hard (Unwritten x) n = absurd (n tt)
+words_of_hard (Quotient x p q) n = tt
 
 pub some_at : (cs : List Conj) (i : ℕ) → i < length cs → (c : Conj) × (slice_get cs i ≡ Some c)
 some_at [] i l = absurd (omega arith)

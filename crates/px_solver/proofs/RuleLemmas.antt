@@ -17,7 +17,7 @@ use Rattle.px_terms.specs.declared.variables.Sort.{Sort}
 use Rattle.px_terms.specs.declared.variables.Sort.TheVariants.{Given, Cell, Input, Made}
 use Rattle.px_terms.specs.declared.variables.VarInfo.{VarInfo}
 use Rattle.px_terms.specs.declared.conjuncts.Conj.{Conj}
-use Rattle.px_terms.specs.declared.conjuncts.Conj.TheVariants.{Equal, Unequal, Less, AtMost, SamePlace, OtherPlace, Written, Unwritten}
+use Rattle.px_terms.specs.declared.conjuncts.Conj.TheVariants.{Equal, Unequal, Less, AtMost, SamePlace, OtherPlace, Written, Unwritten, Quotient}
 use Rattle.px_terms.proofs.WordLaws.{words_are_signed}
 use Rattle.px_plain.proofs.Meanings.{info_of}
 use Rattle.px_solver.specs.Laws.{RefutedHaveNoModel}
@@ -49,6 +49,7 @@ order_one v (SamePlace a b) h = tt
 order_one v (OtherPlace a b) h = tt
 order_one v (Written z) h = tt
 order_one v (Unwritten z) h = tt
+order_one v (Quotient z p q) h = tt
 
 -- ---- interval
 
@@ -94,6 +95,7 @@ module _ (v : Valuation) (x : ℕ) (z : ℤ) (here : v x ≡ value.Word z) where
   within_one (OtherPlace a b) h k = absurd k
   within_one (Written y) h k = absurd k
   within_one (Unwritten y) h k = absurd k
+  within_one (Quotient y p q) h k = absurd k
 
 -- what holds of the variables of a conjunct that bounds x holds of x
 one_of : (P : ℕ → Type 0) (x : ℕ) (xs : List ℕ) → xs ≡ x ∷ [] → All P xs → P x
@@ -110,6 +112,7 @@ bound_word v x (SamePlace a b) h k = absurd k
 bound_word v x (OtherPlace a b) h k = absurd k
 bound_word v x (Written y) h k = absurd k
 bound_word v x (Unwritten y) h k = absurd k
+bound_word v x (Quotient y p q) h k = absurd k
 
 bound_int : (vars : List VarInfo) (x : ℕ) (c : Conj) → IsWellSorted vars c → BoundsVariable x c → IsIntVariable vars x
 bound_int vars x (Equal p) h b = one_of (IsIntVariable vars) x (variables_of p) (of_unit x p b) h
@@ -122,6 +125,7 @@ bound_int vars x (SamePlace a b) h k = absurd k
 bound_int vars x (OtherPlace a b) h k = absurd k
 bound_int vars x (Written y) h k = absurd k
 bound_int vars x (Unwritten y) h k = absurd k
+bound_int vars x (Quotient y p q) h k = absurd k
 
 word_fits : (s : Sort) (z : ℤ) → FitsSort s Int (value.Word z) → FitsSigned w32 z
 word_fits Given z h = h

@@ -15,10 +15,11 @@ use Rattle.px_plain.specs.Readings.{word_differences}
 use Rattle.px_plain.specs.Ties.{IsTrueOf, KeepsTies, HasRepresentative, IsRepresentative, Touches}
 use Rattle.px_plain.proofs.Representatives.{at_nodes, node_after, tied_to_root, representative, fixed_or_not, root_of, free_keep}
 use Rattle.px_solver.specs.Components.{IsClosed, ShareComponent, IsOfComponent, AreMembers, Selects}
-use Rattle.px_solver.specs.Assignments.{GivesCandidates, Makes, IsSolvedBy, IsUnsolved}
+use Rattle.px_solver.specs.Assignments.{GivesCandidates, Makes, AreCandidates, IsSolvedBy, IsUnsolved}
 use Rattle.px_solver.specs.Candidates.{candidates}
-use Rattle.px_solver.specs.Tables.{word_under, AreTrueAt, GivesRoots, Works, AreApart, Joins, HasHome, AreNodeHomes, places_of, picked, IsSolved, HasFailed}
+use Rattle.px_solver.specs.Tables.{word_under, fixed_under, AreTrueAt, GivesRoots, Works, AreApart, Joins, HasHome, AreNodeHomes, places_of, picked, IsSolved, HasFailed}
 use Rattle.px_solver.proofs.ComponentLemmas.{touched_inside_root, share_of_parent, parent_of_share, home_here, component_here, one_parent, eq_of}
+use Rattle.px_solver.proofs.FixedWords.{forest_tells, picked_have}
 use Rattle.px_solver.proofs.PlaceLemmas.{places_each, places_all, places_apart}
 use Rattle.px_solver.proofs.SearchLemmas.{contains_more, contains_cases, first_apart, rest_apart}
 use Rattle.px_solver.proofs.SelectLemmas.{picked_from}
@@ -212,6 +213,13 @@ module _ (cs : List Conj) (t : List Node) (f : IsForestOf (word_differences cs) 
           λ p. home_here cs t f inside ct j flat small some i c h b e home r l p ∙ top,
         )) homes)
 
+    are_candidates : AreCandidates cs chosen (candidates (fixed_under t) chosen)
+    are_candidates = record {
+      fixed = fixed_under t;
+      are_fixed = forest_tells cs t f chosen (picked_have (λ c. All (λ x. x + 1 < length t) (mentioned c)) cs indexes inside);
+      are = refl;
+    }
+
     not_null : ¬ Contains members_at 0
     not_null (i, b, e) = (all_members i 0 b).1 e
 
@@ -314,14 +322,16 @@ module _ (cs : List Conj) (t : List Node) (f : IsForestOf (word_differences cs) 
     solved_by base g z s w e = record {
       members = members;
       conjuncts = chosen;
+      values = candidates (fixed_under t) chosen;
       places = s.first.places;
       are_members = are_members;
       few = let n = same_length in let few = s.few in omega arith;
       selects = selects;
-      given = gives_same (candidates chosen) members_at s.first.places all_members (λ v c. e v c) s.first.given;
+      are_candidates = are_candidates;
+      given = gives_same (candidates (fixed_under t) chosen) members_at s.first.places all_members (λ v c. e v c) s.first.given;
       is_first = record {
-        makes = makes_of_works (candidates chosen) base s.first.places z s.first.works;
-        first = λ ks b m. s.first.first ks b (works_of_makes (candidates chosen) base ks z m);
+        makes = makes_of_works (candidates (fixed_under t) chosen) base s.first.places z s.first.works;
+        first = λ ks b m. s.first.first ks b (works_of_makes (candidates (fixed_under t) chosen) base ks z m);
       };
     }
       where
@@ -340,10 +350,12 @@ module _ (cs : List Conj) (t : List Node) (f : IsForestOf (word_differences cs) 
     none_solves base z h = record {
       members = members;
       conjuncts = chosen;
+      values = candidates (fixed_under t) chosen;
       are_members = are_members;
       selects = selects;
+      are_candidates = are_candidates;
       fails = elim h [
         | inl few ↦ inl (let n = same_length in omega arith)
-        | inr none ↦ inr (λ ks m. none ks (works_of_makes (candidates chosen) base ks z m))
+        | inr none ↦ inr (λ ks m. none ks (works_of_makes (candidates (fixed_under t) chosen) base ks z m))
       ];
     }

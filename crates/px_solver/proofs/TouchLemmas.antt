@@ -7,7 +7,7 @@ use Rattle.std.proofs.lemmas.List.Elements.{All-nil, All-cons, All-head, All-tai
 use Rattle.std.proofs.lemmas.Slice.Zip.{all_zipped_more}
 use Rattle.px_terms.specs.Variables.{mentioned}
 use Rattle.px_terms.specs.declared.conjuncts.Conj.{Conj}
-use Rattle.px_terms.specs.declared.conjuncts.Conj.TheVariants.{Equal, Unequal, Less, AtMost, SamePlace, OtherPlace, Written, Unwritten}
+use Rattle.px_terms.specs.declared.conjuncts.Conj.TheVariants.{Equal, Unequal, Less, AtMost, SamePlace, OtherPlace, Written, Unwritten, Quotient}
 use Rattle.px_terms.proofs.Evaluation.{All-left, All-right}
 use Rattle.px_plain.specs.declared.nodes.Node.{Node}
 use Rattle.px_plain.specs.Forest.{parent_at, IsForest, Keeps}
@@ -22,6 +22,7 @@ all_word_variables P (SamePlace a b) h = All-nil P
 all_word_variables P (OtherPlace a b) h = All-nil P
 all_word_variables P (Written x) h = All-nil P
 all_word_variables P (Unwritten x) h = All-nil P
+all_word_variables P (Quotient x p q) h = h
 
 pub roots_inside : (t : List Node) (xs : List ℕ) → IsForest t → All (λ x. x + 1 < length t) xs → All (λ u. u < length t) (roots_of t xs)
 roots_inside t xs f h =

@@ -1,9 +1,9 @@
 -- What the solver's tables say: words under a forest, touched roots, chains of places in a list.
-use Rattle.std.specs.Prelude.{◌≡◌, ◌≢◌, ℕ, suc, ◌+◌, ◌%◌, ◌^◌, ◌<◌, ◌≤◌, ◌⊎◌, Bool, true, false, not, List, [], ◌∷◌, Some, All, Any, Contains, cond, nat_eq, nat_lt, filter, map, flat_map, length, option_to_list, slice_get, slice_index, slice_index_or}
+use Rattle.std.specs.Prelude.{◌≡◌, ◌≢◌, ℕ, suc, ◌+◌, ◌%◌, ◌^◌, ◌<◌, ◌≤◌, ◌⊎◌, Bool, true, false, not, List, [], ◌∷◌, Option, Some, None, All, Any, Contains, cond, nat_eq, nat_lt, filter, map, flat_map, length, option_to_list, slice_get, slice_index, slice_index_or}
 use Rattle.std.specs.List.{AllZip}
 use Rattle.px_terms.specs.Variables.{mentioned}
 use Rattle.px_terms.specs.declared.conjuncts.Conj.{Conj}
-use Rattle.px_terms.specs.declared.conjuncts.Conj.TheVariants.{Equal, Unequal, Less, AtMost, SamePlace, OtherPlace, Written, Unwritten}
+use Rattle.px_terms.specs.declared.conjuncts.Conj.TheVariants.{Equal, Unequal, Less, AtMost, SamePlace, OtherPlace, Written, Unwritten, Quotient}
 use Rattle.px_terms.specs.Conjuncts.{IsPlain}
 use Rattle.px_plain.specs.declared.nodes.Node.{Node}
 use Rattle.px_plain.specs.Forest.{node_at, parent_at, IsForest, Keeps}
@@ -20,6 +20,10 @@ word_under t g x = g (parent_at t (x + 1)) + (node_at t (x + 1)).offset
 -- the conjuncts at these places are true of words
 abbrev pub AreTrueAt : List Conj → List ℕ → (ℕ → ℕ) → Type 0
 AreTrueAt conjuncts indexes w = (i : ℕ) (c : Conj) → i < length indexes → slice_get conjuncts (slice_index indexes i) ≡ Some c → IsTrueOf w c
+
+-- the word of a variable that the root 0 fixes
+abbrev pub fixed_under : List Node → ℕ → Option ℕ
+fixed_under t x = cond (nat_eq (parent_at t (x + 1)) 0) (Some ((node_at t (x + 1)).offset % 2 ^ 32)) None
 
 -- ---- the search
 
@@ -65,6 +69,7 @@ word_variables (SamePlace a b) = []
 word_variables (OtherPlace a b) = []
 word_variables (Written x) = []
 word_variables (Unwritten x) = []
+word_variables (Quotient x p q) = mentioned (Quotient x p q)
 
 abbrev pub touched : List Node → Conj → List ℕ
 touched t c = roots_of t (word_variables c)
@@ -164,11 +169,11 @@ IsMarkedFalse t roots marks home c = (¬ IsPlain c) × (Any (IsMarked marks) (me
 -- there are at most three members, and the numbers follow their first assignment
 pub record IsSolved (t : List Node) (conjuncts : List Conj) (indexes : List ℕ) (base : ℕ → ℕ) (members : List ℕ) (numbers : ℕ → ℕ) : Type 0 where
   pub few : length members ≤ 3
-  pub first : FirstWork t conjuncts indexes (candidates (picked conjuncts indexes)) base members numbers
+  pub first : FirstWork t conjuncts indexes (candidates (fixed_under t) (picked conjuncts indexes)) base members numbers
 
 -- there are more, or no assignment works
 abbrev pub HasFailed : List Node → List Conj → List ℕ → (ℕ → ℕ) → List ℕ → Type 0
-HasFailed t conjuncts indexes base members = (3 < length members) ⊎ ((places : List ℕ) → ¬ Works t conjuncts indexes (candidates (picked conjuncts indexes)) base members places)
+HasFailed t conjuncts indexes base members = (3 < length members) ⊎ ((places : List ℕ) → ¬ Works t conjuncts indexes (candidates (fixed_under t) (picked conjuncts indexes)) base members places)
 
 -- the conjunct has this home
 abbrev pub IsAtHome : ℕ → ℕ → Conj → Type 0

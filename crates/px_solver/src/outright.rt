@@ -1,6 +1,7 @@
 ghost use Rattle.std.specs.Prelude.{◌≡◌, ◌↔◌, ◌⊎◌, ℕ, ◌+◌, ◌<◌, ◌≤◌, Bool, length, All, Any, false, true, IfOk, slice_index_or};
 ghost use Rattle.px_terms.specs.Monomials.{term_of};
 ghost use Rattle.px_terms.specs.Variables.{variables_of, mentioned};
+ghost use Rattle.px_terms.specs.declared.conjuncts.Conj.TheVariants.{Quotient};
 ghost use Rattle.px_terms.specs.Conjuncts.{IsPlain};
 ghost use Rattle.px_plain.specs.Forest.{IsForest};
 ghost use Rattle.px_plain.specs.Readings.{HasSmallVariables};
@@ -9,7 +10,7 @@ ghost use Rattle.px_solver.specs.Tables.{word_under, MarksSaid, IsMarked, IsMark
 
 use crate::truth::is_true;
 use px_plain::{Node, is_plain};
-use px_terms::{Conj, Monomial, Poly};
+use px_terms::{Conj, Monomial, Poly, Var};
 use std::alloc::{AllocError, Global};
 
 // Marks the variable that a conjunct says is unwritten.
@@ -79,6 +80,23 @@ fn sum_has_marked(p: &Poly, marks: &[bool]) -> bool
     false
 }
 
+// Whether a variable of a quotient is marked.
+fn quotient_has_marked(x: Var, p: &Poly, q: &Poly, marks: &[bool]) -> bool
+    requires variable { x.0 < length marks.now }
+    requires left { All (λ x. x < length marks.now) (variables_of p.now) }
+    requires right { All (λ x. x < length marks.now) (variables_of q.now) }
+    ensures yes { result ≡ true → Any (IsMarked marks.now) (mentioned (Quotient x p.now q.now)) }
+    ensures no { result ≡ false → All (λ x. ¬ IsMarked marks.now x) (mentioned (Quotient x p.now q.now)) }
+{
+    if marks[x.0 as usize] {
+        return true;
+    }
+    if sum_has_marked(p, marks) {
+        return true;
+    }
+    sum_has_marked(q, marks)
+}
+
 // Whether a variable of a conjunct that isn't plain is marked.
 fn mentions_marked(conjunct: &Conj, marks: &[bool]) -> bool
     requires inside { All (λ x. x < length marks.now) (mentioned conjunct.now) }
@@ -91,6 +109,7 @@ fn mentions_marked(conjunct: &Conj, marks: &[bool]) -> bool
         Conj::Less(p, q) | Conj::AtMost(p, q) => {
             sum_has_marked(p, marks) || sum_has_marked(q, marks)
         }
+        Conj::Quotient(x, p, q) => quotient_has_marked(*x, p, q, marks),
         _ => false,
     }
 }

@@ -9,8 +9,8 @@ use crate::candidates::candidates;
 use crate::chains::{Chains, places_of};
 use crate::search::search;
 use px_plain::Node;
-use px_terms::Conj;
-use std::alloc::{AllocError, Global};
+use px_terms::{Conj, NoMemory};
+use std::alloc::Global;
 
 // GivesCandidates the members of a component the first candidates that make its conjuncts true. False where it has
 // more than three members, or no candidates do.
@@ -21,7 +21,7 @@ fn solve(
     indexes: &[u32],
     members: &[u32],
     roots: &mut [u32],
-) -> Result<bool, AllocError>
+) -> Result<bool, NoMemory>
     requires forest { IsForest table.now }
     requires size { length roots.old ≡ length table.now }
     requires small { length table.now ≤ 65537 }
@@ -37,7 +37,7 @@ fn solve(
     if members.len() > 3 {
         return Ok(false);
     }
-    let values = candidates(alloc, conjuncts, indexes)?;
+    let values = candidates(alloc, conjuncts, table, indexes)?;
     Ok(search(members, &values, conjuncts, indexes, table, roots))
 }
 
@@ -64,7 +64,7 @@ fn solve_home(
     layout: &Layout,
     home: u32,
     roots: &mut [u32],
-) -> Result<bool, AllocError>
+) -> Result<bool, NoMemory>
     requires forest { IsForest table.now }
     requires size { length roots.old ≡ length table.now }
     requires small { length table.now ≤ 65537 }
@@ -90,7 +90,7 @@ fn solve_if_hard(
     layout: &Layout,
     home: u32,
     roots: &mut [u32],
-) -> Result<bool, AllocError>
+) -> Result<bool, NoMemory>
     requires forest { IsForest table.now }
     requires size { length roots.old ≡ length table.now }
     requires small { length table.now ≤ 65537 }
@@ -117,7 +117,7 @@ pub(crate) fn solve_all(
     table: &[Node],
     layout: &Layout,
     roots: &mut [u32],
-) -> Result<u32, AllocError>
+) -> Result<u32, NoMemory>
     requires forest { IsForest table.now }
     requires size { length roots.old ≡ length table.now }
     requires small { length table.now ≤ 65537 }

@@ -2,12 +2,13 @@ ghost use Rattle.std.specs.Prelude.{◌≡◌, ℕ, ◌+◌, ◌%◌, ◌^◌, �
 ghost use Rattle.std.specs.List.{AllZip};
 ghost use Rattle.px_terms.specs.Monomials.{term_of};
 ghost use Rattle.px_terms.specs.Variables.{variables_of, mentioned};
+ghost use Rattle.px_terms.specs.declared.conjuncts.Conj.TheVariants.{Quotient};
 ghost use Rattle.px_plain.specs.Forest.{IsForest, Keeps};
 ghost use Rattle.px_solver.specs.Tables as spec;
 ghost use Rattle.px_solver.specs.Tables.{roots_of, AreOne, Joins, HasFirst};
 
 use px_plain::{Node, join};
-use px_terms::{Conj, Monomial, Poly};
+use px_terms::{Conj, Monomial, Poly, Var};
 use std::alloc::{AllocError, Global};
 
 // Adds the root of a variable, but for node 0.
@@ -48,6 +49,25 @@ fn push_sum(out: &mut Vec<u32>, table: &[Node], p: &Poly) -> Result<(), AllocErr
     Ok(())
 }
 
+// Adds the roots of a quotient's variables.
+fn push_quotient(
+    out: &mut Vec<u32>,
+    table: &[Node],
+    x: Var,
+    p: &Poly,
+    q: &Poly,
+) -> Result<(), AllocError>
+    requires small { length table.now ≤ 65537 }
+    requires variable { x.0 + 1 < length table.now }
+    requires left { All (λ x. x + 1 < length table.now) (variables_of p.now) }
+    requires right { All (λ x. x + 1 < length table.now) (variables_of q.now) }
+    ensures { OnOk result (out.new.items ≡ out.old.items ++ roots_of table.now (mentioned (Quotient x p.now q.now))) }
+{
+    push_root(out, table, x.0)?;
+    push_sum(out, table, p)?;
+    push_sum(out, table, q)
+}
+
 // Adds what a conjunct touches.
 fn push_touched(out: &mut Vec<u32>, table: &[Node], conjunct: &Conj) -> Result<(), AllocError>
     requires small { length table.now ≤ 65537 }
@@ -60,6 +80,7 @@ fn push_touched(out: &mut Vec<u32>, table: &[Node], conjunct: &Conj) -> Result<(
             push_sum(out, table, p)?;
             push_sum(out, table, q)
         }
+        Conj::Quotient(x, p, q) => push_quotient(out, table, *x, p, q),
         _ => Ok(()),
     }
 }

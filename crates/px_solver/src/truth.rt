@@ -4,12 +4,13 @@ ghost use Rattle.px_terms.specs.Terms as spec;
 ghost use Rattle.px_terms.specs.Polynomials.{value_of};
 ghost use Rattle.px_terms.specs.Monomials.{term_of};
 ghost use Rattle.px_terms.specs.Variables.{variables_of, mentioned};
+ghost use Rattle.px_terms.specs.declared.conjuncts.Conj.TheVariants.{Quotient};
 ghost use Rattle.px_plain.specs.Forest.{parent_at, IsForest};
 ghost use Rattle.px_plain.specs.Ties.{IsTrueOf};
 ghost use Rattle.px_solver.specs.Tables.{word_under};
 
 use px_plain::Node;
-use px_terms::{Conj, Monomial, Poly};
+use px_terms::{Conj, Monomial, Poly, Var, is_quotient};
 
 // The word of a variable, from those of the roots.
 pub(crate) fn word_at(table: &[Node], roots: &[u32], x: u32) -> u32
@@ -56,6 +57,22 @@ fn value_at(p: &Poly, table: &[Node], roots: &[u32]) -> u32
     sum
 }
 
+// Whether a variable is the quotient of two polynomials.
+fn is_quotient_at(x: Var, p: &Poly, q: &Poly, table: &[Node], roots: &[u32]) -> bool
+    requires forest { IsForest table.now }
+    requires size { length roots.now ≡ length table.now }
+    requires small { length table.now ≤ 65537 }
+    requires variable { x.0 + 1 < length table.now }
+    requires left { All (λ x. x + 1 < length table.now) (variables_of p.now) }
+    requires right { All (λ x. x + 1 < length table.now) (variables_of q.now) }
+    ensures { result ≡ true ↔ IsTrueOf (word_under table.now (slice_index roots.now)) (Quotient x p.now q.now) }
+{
+    let word = word_at(table, roots, x.0);
+    let m = value_at(p, table, roots);
+    let n = value_at(q, table, roots);
+    is_quotient(word, m, n)
+}
+
 // Whether a conjunct on words is true; true for any other.
 pub(crate) fn is_true(conjunct: &Conj, table: &[Node], roots: &[u32]) -> bool
     requires forest { IsForest table.now }
@@ -69,6 +86,7 @@ pub(crate) fn is_true(conjunct: &Conj, table: &[Node], roots: &[u32]) -> bool
         Conj::Unequal(p) => value_at(p, table, roots) != 0,
         Conj::Less(p, q) => is_less(value_at(p, table, roots), value_at(q, table, roots)),
         Conj::AtMost(p, q) => is_at_most(value_at(p, table, roots), value_at(q, table, roots)),
+        Conj::Quotient(x, p, q) => is_quotient_at(*x, p, q, table, roots),
         _ => true,
     }
 }

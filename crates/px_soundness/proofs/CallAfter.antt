@@ -24,7 +24,7 @@ use Rattle.px_entry.specs.Sorts.{is_some_and, is_given_sort, is_cell_sort, is_ma
 use Rattle.px_entry.specs.Equality.{same_conjunct}
 use Rattle.px_entry.specs.Contents.{fits_cell, content_variables, variable_content}
 use Rattle.px_entry.specs.Constraint.{found_atoms, made_atoms}
-use Rattle.px_entry.specs.Regular.{is_said_written, is_used_written, is_regular, used_by_conjunct, used_by_atom, used_by_result, is_result, points_to_block, fits_state, fits_block, state_cells, cells_of, same_blocks}
+use Rattle.px_entry.specs.Regular.{is_said_written, is_used_written, is_regular, used_by_conjunct, used_by_atom, used_by_result, is_result, points_to_block, fits_state, fits_block, state_cells, cells_of, same_blocks, is_quotient_input}
 use Rattle.px_entry.proofs.Lists.{Each, each_append, each_from}
 use Rattle.px_callgraph.specs.declared.states.State.{State}
 use Rattle.px_callgraph.specs.JobTree.{JobTree}
@@ -85,6 +85,7 @@ module _ (vars : List VarInfo) (σ : Substitution) where
       one (conjunct.SamePlace a b) f = cc
       one (conjunct.OtherPlace a b) f = cc
       one (conjunct.Unwritten w) f = cc
+      one (conjunct.Quotient x p q) f = cc
 
       by : (q : Bool) → same_conjunct (conjunct.Written (record { 0 = y })) c ≡ q → (q || is_said_written cs y) ≡ true → (is_said_written cs y ≡ true → is_said_written (folded cs (assume_claim vars pure (claim_through σ c))) z.0 ≡ true) →
           is_said_written (folded cs (assume_claim vars pure (claim_through σ c))) z.0 ≡ true
@@ -219,15 +220,16 @@ module _ (j : JobTree) (arguments : List Content) (x : Entry) (regular : is_regu
   abbrev Used : ℕ → Type 0
   Used y = is_used_written x y ≡ true
 
-  good_claims : (cs : List Conj) → list_all (is_well_sorted x.vars) cs ≡ true → Each Used (flat_map used_by_conjunct cs) → Each (λ c. GoodClaim vars says (claim_through all c)) cs
-  good_claims [] e k = tt
-  good_claims (c ∷ cs) e k =
+  good_claims : (cs : List Conj) → list_all (is_well_sorted x.vars) cs ≡ true → list_all (is_quotient_input x.vars) cs ≡ true → Each Used (flat_map used_by_conjunct cs) → Each (λ c. GoodClaim vars says (claim_through all c)) cs
+  good_claims [] e r k = tt
+  good_claims (c ∷ cs) e r k =
+      let d = and_parts (is_quotient_input x.vars c) (list_all (is_quotient_input x.vars) cs) r in
       let b = and_parts (is_well_sorted x.vars c) (list_all (is_well_sorted x.vars) cs) e in
       let (first, rest) = each_split Used (used_by_conjunct c) (flat_map used_by_conjunct cs) k in
-      (good_claim x vars u.pure says more all stands claimed c b.0 first, good_claims cs b.1 rest)
+      (good_claim x vars u.pure says more all stands claimed c b.0 d.0 first, good_claims cs b.1 d.1 rest)
 
   conjuncts : Each (GoodConj vars says) says
-  conjuncts = folded_each vars all says x.pure u.pure (each_weaker _ _ (conj_grown u.vars vars grown h.counted says said) u.pure h.conjuncts) (good_claims x.pure of.sorted of.in_conjuncts)
+  conjuncts = folded_each vars all says x.pure u.pure (each_weaker _ _ (conj_grown u.vars vars grown h.counted says said) u.pure h.conjuncts) (good_claims x.pure of.sorted of.quotients of.in_conjuncts)
 
   -- ---- blocks
 

@@ -6,7 +6,7 @@ use Rattle.std.proofs.lemmas.Bool.{and_parts, and_from, ltb-true}
 use Rattle.std.proofs.lemmas.Option.{slice_get-get_or, same_Some, slice_get_within}
 use Rattle.px_terms.specs.Polynomials.{Polynomial, terms_of}
 use Rattle.px_terms.specs.Variables.{variables_of, place_variables}
-use Rattle.px_terms.specs.Substitutions.{content_for, image_by, image_of, substituted, substitution_of}
+use Rattle.px_terms.specs.Substitutions.{content_for, image_by, image_of, substituted, substitution_of, variable}
 use Rattle.px_terms.specs.declared.types.TypeId.{TypeId}
 use Rattle.px_terms.specs.declared.types.ValueType.{ValueType}
 use Rattle.px_terms.specs.declared.types.ValueType.TheVariants.{Int, Pointer}
@@ -26,14 +26,14 @@ use Rattle.px_entry.specs.declared.atoms.AtomState.TheVariants.{Live, Freed}
 use Rattle.px_entry.specs.declared.entries.Entry.{Entry}
 use Rattle.px_entry.specs.Sorts.{is_some_and, is_cell_sort, is_int_type, is_pointer_type, same_type, is_cell, is_int, is_pointer, has_type, is_int_polynomial, is_pointer_place, is_place_of, is_well_sorted}
 use Rattle.px_entry.specs.Contents.{is_written_of, fits_cell, fits_some_type, fit_each, content_variables}
-use Rattle.px_entry.specs.Regular.{fits_state, state_cells, is_said_written, is_used_written, used_by_conjunct}
+use Rattle.px_entry.specs.Regular.{fits_state, state_cells, is_said_written, is_used_written, used_by_conjunct, is_quotient_input}
 use Rattle.px_entry.proofs.Lists.{Each, each_all, all_each, each_to}
-use Rattle.px_callgraph.specs.Renaming.{Substitution, is_word, word_through, place_in, place_through, or_unwritten, content_through, state_through, Claim, surely, never, claims, claim_one, claim_two, written_claim, unwritten_claim, claim_through}
+use Rattle.px_callgraph.specs.Renaming.{Substitution, is_word, word_through, place_in, place_through, or_unwritten, content_through, state_through, Claim, surely, never, claims, claim_one, claim_two, written_claim, unwritten_claim, claim_through, variable_in, quotient_claim}
 use Rattle.px_soundness.proofs.WellFormed.{is_usable, UsableWord, Good, GoodConj}
 use Rattle.px_soundness.proofs.AtomHeaps.{absent}
 use Rattle.px_soundness.proofs.Truths.{variable_is}
 use Rattle.px_soundness.proofs.WellTyped.{SaysMore, good_grown}
-use Rattle.px_soundness.proofs.FitsThrough.{Suits, Stands, same_is}
+use Rattle.px_soundness.proofs.FitsThrough.{Suits, Stands, same_is, input_content}
 use Rattle.px_soundness.proofs.WordsThrough.{HasImage, substitution_has}
 use Rattle.px_check.proofs.ValueLemmas.{each_split}
 
@@ -62,14 +62,14 @@ module _ (vars : List VarInfo) where
   -- an unread cell stands for a cell, of the same type
   pub only_cell : (s : Sort) (t : ValueType) (z : Var) → Suits vars s t (Cell z) → (s ≡ sort.Cell) × (has_type vars t z.0 ≡ true)
   only_cell sort.Given t z h = absurd (not_written t z h)
-  only_cell sort.Input t z h = absurd (not_written t z h)
+  only_cell sort.Input t z h = absurd (not_written t z h.3)
   only_cell sort.Made t z (m, other, made, type) = cc
   only_cell sort.Cell t z h = (refl, (and_parts (is_cell vars z.0) (has_type vars t z.0) h).1)
 
   -- a place stands for a pointer to the same blocks
   pub place_type : (s : Sort) (b : TypeId) (a : PlaceOf) → Suits vars s (Pointer b) (Place a) → is_place_of vars b a ≡ true
   place_type sort.Given b a h = h
-  place_type sort.Input b a h = h
+  place_type sort.Input b a h = h.3
   place_type sort.Cell b a h = h
   place_type sort.Made b a (m, is, made, type) = subst (λ c. fits_cell vars (Pointer b) c ≡ true) (sym is) type
 
@@ -256,14 +256,14 @@ module _ (x : Entry) (vars : List VarInfo) (pure says : List Conj) (said : SaysM
   cell_below : (z : Var) → is_cell vars z.0 ≡ true → z.0 < length vars
   cell_below z e = let (i, at, c) = variable_is vars (λ (i : VarInfo). is_cell_sort i.sort) z.0 e in slice_get_within vars z.0 i at
 
-  pub good_claim : (c : Conj) → is_well_sorted x.vars c ≡ true → Each Used (used_by_conjunct c) → GoodClaim vars says (claim_through σ c)
-  good_claim (conjunct.Equal p) e u = one_word conjunct.Equal (λ q g. g.1) p e u
-  good_claim (conjunct.Unequal p) e u = one_word conjunct.Unequal (λ q g. g.1) p e u
-  good_claim (conjunct.Less p q) e u = two_words conjunct.Less (λ a b g h. (g.1, h.1)) p q e u
-  good_claim (conjunct.AtMost p q) e u = two_words conjunct.AtMost (λ a b g h. (g.1, h.1)) p q e u
-  good_claim (conjunct.SamePlace p q) e u = two_places conjunct.SamePlace (λ a b g h. (g, h)) p q e u
-  good_claim (conjunct.OtherPlace p q) e u = two_places conjunct.OtherPlace (λ a b g h. (g, h)) p q e u
-  good_claim (conjunct.Written y) e u =
+  pub good_claim : (c : Conj) → is_well_sorted x.vars c ≡ true → is_quotient_input x.vars c ≡ true → Each Used (used_by_conjunct c) → GoodClaim vars says (claim_through σ c)
+  good_claim (conjunct.Equal p) e r u = one_word conjunct.Equal (λ q g. g.1) p e u
+  good_claim (conjunct.Unequal p) e r u = one_word conjunct.Unequal (λ q g. g.1) p e u
+  good_claim (conjunct.Less p q) e r u = two_words conjunct.Less (λ a b g h. (g.1, h.1)) p q e u
+  good_claim (conjunct.AtMost p q) e r u = two_words conjunct.AtMost (λ a b g h. (g.1, h.1)) p q e u
+  good_claim (conjunct.SamePlace p q) e r u = two_places conjunct.SamePlace (λ a b g h. (g, h)) p q e u
+  good_claim (conjunct.OtherPlace p q) e r u = two_places conjunct.OtherPlace (λ a b g h. (g, h)) p q e u
+  good_claim (conjunct.Written y) e r u =
       let (i, at) = listed y.0 e in
       let (c, is, g, h) = stands.content y.0 i at in subst (λ o. GoodClaim vars says (written_claim o)) (sym is) (by i at c is g h)
     where
@@ -272,7 +272,7 @@ module _ (x : Entry) (vars : List VarInfo) (pure says : List Conj) (said : SaysM
       by i at (Word p) is g h = tt
       by i at (Place a) is g h = tt
       by i at (Cell z) is g h = (cell_below z g, cell_usable y.0 i z at is h u.0)
-  good_claim (conjunct.Unwritten y) e u =
+  good_claim (conjunct.Unwritten y) e r u =
       let (i, at) = listed y.0 e in
       let (c, is, g, h) = stands.content y.0 i at in subst (λ o. GoodClaim vars says (unwritten_claim o)) (sym is) (by c g)
     where
@@ -281,3 +281,8 @@ module _ (x : Entry) (vars : List VarInfo) (pure says : List Conj) (said : SaysM
       by (Word p) g = tt
       by (Place a) g = tt
       by (Cell z) g = cell_below z g
+  good_claim (conjunct.Quotient y p q) e r u =
+      let a = and_parts (is_int x.vars y.0) (is_int_polynomial x.vars p && is_int_polynomial x.vars q) e in
+      let (m, is, input, g) = input_content vars pure x.vars σ stands y.0 r in
+      subst (λ o. GoodClaim vars says (quotient_claim (variable_in o) (word_through σ p) (word_through σ q))) (sym is)
+      (two_words (conjunct.Quotient (record { 0 = m })) (λ a b good later. (input, (grown_good (Word (variable m)) g).1.0, good.1, later.1)) p q a.1 u.1)

@@ -151,7 +151,7 @@ module _ (vars : List VarInfo) (pure : List Conj) (xs : List VarInfo) (σ : Subs
 
   suits_grown : (s : Sort) (t : ValueType) (c : Content) → Suits vars s t c → Suits more s t c
   suits_grown sort.Given t c h = written_grown t c h
-  suits_grown sort.Input t c h = written_grown t c h
+  suits_grown sort.Input t c (m, is, input, h) = (m, is, with_grown vars more grown _ m input, written_grown t c h)
   suits_grown sort.Cell t c h = fits_grown vars more grown t c h
   suits_grown sort.Made t c (m, is, made, type) = (m, is, with_grown vars more grown _ m.0 made, with_grown vars more grown _ m.0 type)
 
@@ -177,8 +177,8 @@ module _ (vars : List VarInfo) (pure : List Conj) (xs : List VarInfo) (σ : Subs
       by sort.Given t is at' e h = absurd (let f : false ≡ true = e in cc)
       by sort.Cell t is at' e h = absurd (let f : false ≡ true = e in cc)
       by sort.Input t is at' e h =
-          subst (λ z. is_written_of more z (variable_content z m) ≡ true) (sym h)
-          (and_from _ _ (test_at m i at (λ (k : VarInfo). is_int_type k.value) (ap is_int_type (at' ∙ h))) refl)
+          subst (λ z. Suits more sort.Input z (variable_content z m)) (sym h)
+          (m, refl, test_at m i at (λ (k : VarInfo). is_input_sort k.sort) (ap is_input_sort is), and_from _ _ (test_at m i at (λ (k : VarInfo). is_int_type k.value) (ap is_int_type (at' ∙ h))) refl)
       by sort.Made t is at' e (b, h) =
           subst (λ z. Suits more sort.Made z (variable_content z m)) (sym h)
           (record { 0 = m }, refl, test_at m i at (λ (k : VarInfo). is_made_sort k.sort) (ap is_made_sort is), test_at m i at (λ (k : VarInfo). same_type k.value (Pointer b)) (ap (λ z. same_type z (Pointer b)) (at' ∙ h) ∙ type_itself (Pointer b)))

@@ -1,16 +1,17 @@
 -- The conjuncts of a callee's entry, read by its caller: where what they claim is so, they are true of the callee.
-use Rattle.std.proofs.Common.{◌≡◌, ◌≢◌, ℕ, Bool, true, false, Option, Some, None, List, [], ◌∷◌, refl, subst}
+use Rattle.std.proofs.Common.{◌≡◌, ◌≢◌, ℕ, ◌%◌, ◌^◌, Bool, true, false, Option, Some, None, List, [], ◌∷◌, refl, subst, ◌∙◌}
 use Rattle.std.specs.Prelude.{fold, flat_map, ◌<ℤ◌, ◌≤ℤ◌}
 use Rattle.std.specs.List.{list_all}
 use Rattle.std.proofs.lemmas.Bool.{and_parts}
-use Rattle.px_terms.specs.Words.{signed}
+use Rattle.px_terms.specs.Words.{signed, IsQuotient}
 use Rattle.px_terms.specs.Polynomials.{Polynomial, terms_of}
 use Rattle.px_terms.specs.Variables.{variables_of}
 use Rattle.px_terms.specs.Substitutions.{content_for, substituted, substitution_of}
-use Rattle.px_terms.specs.Valuations.{Valuation, IsPlace, IsUnwritten, Fits}
+use Rattle.px_terms.specs.Valuations.{Valuation, number_of, numbers_of, IsWord, IsPlace, IsUnwritten, Fits}
 use Rattle.px_terms.specs.Conjuncts.{HasWords, ArePlaces, word_of, place_of, IsTrueUnder}
 use Rattle.px_terms.specs.declared.types.Value.{Value}
 use Rattle.px_terms.specs.declared.types.Value.TheVariants as value
+use Rattle.px_terms.specs.declared.variables.Var.{Var}
 use Rattle.px_terms.specs.declared.variables.VarInfo.{VarInfo}
 use Rattle.px_terms.specs.declared.conjuncts.Place.{Place as PlaceOf}
 use Rattle.px_terms.specs.declared.conjuncts.Content.{Content}
@@ -19,10 +20,11 @@ use Rattle.px_terms.specs.declared.conjuncts.Conj.{Conj}
 use Rattle.px_terms.specs.declared.conjuncts.Conj.TheVariants as conjunct
 use Rattle.px_terms.proofs.NormalForm.{form_polynomial}
 use Rattle.px_entry.proofs.Lists.{Each}
-use Rattle.px_callgraph.specs.Renaming.{Substitution, is_word, word_through, place_through, Claim, surely, never, claims, claim_one, claim_two, written_claim, unwritten_claim, claim_through, is_claim_open, assume_claim}
+use Rattle.px_callgraph.specs.Renaming.{Substitution, is_word, word_through, place_through, variable_in, Claim, surely, never, claims, claim_one, claim_two, quotient_claim, written_claim, unwritten_claim, claim_through, is_claim_open, assume_claim}
 use Rattle.px_soundness.proofs.WellFormed.{Good}
 use Rattle.px_soundness.proofs.Truths.{Says, HasForm, decided_says, assume_says}
 use Rattle.px_soundness.proofs.Contents.{good_place}
+use Rattle.px_soundness.proofs.VariableWords.{variable_number}
 use Rattle.px_soundness.proofs.Through.{stood, through, place_is, GoodSubstitution, good_for, word_is}
 
 -- ---- what a claim says
@@ -60,6 +62,10 @@ module _ (σ : Substitution) where
   places_form f form (Some a) None = tt
   places_form f form (Some a) (Some b) = form a b
 
+  quotient_form : (o : Option Var) (p q : Polynomial) → HasClaimForm (quotient_claim o (word_through σ p) (word_through σ q))
+  quotient_form None p q = tt
+  quotient_form (Some z) p q = two_form (conjunct.Quotient z) (λ p q. (form_polynomial (flat_map (substituted σ) (terms_of p)), form_polynomial (flat_map (substituted σ) (terms_of q)))) p q
+
   written_form : (o : Option Content) → HasClaimForm (written_claim o)
   written_form None = tt
   written_form (Some Unwritten) = tt
@@ -83,6 +89,7 @@ module _ (σ : Substitution) where
   claim_form (conjunct.OtherPlace a b) = places_form conjunct.OtherPlace (λ a b. tt) (place_through σ a) (place_through σ b)
   claim_form (conjunct.Written x) = written_form (content_for σ x.0)
   claim_form (conjunct.Unwritten x) = unwritten_form (content_for σ x.0)
+  claim_form (conjunct.Quotient x p q) = quotient_form (variable_in (content_for σ x.0)) p q
 
   -- ---- assumed claims
 
@@ -113,6 +120,7 @@ HasKinds w (conjunct.SamePlace a b) = ArePlaces w a b
 HasKinds w (conjunct.OtherPlace a b) = ArePlaces w a b
 HasKinds w (conjunct.Written x) = Unit {0}
 HasKinds w (conjunct.Unwritten x) = Unit {0}
+HasKinds w (conjunct.Quotient x p q) = IsWord (w x.0) × HasWords w p × HasWords w q
 
 pub place_not_unwritten : (u : Value) → IsPlace u → IsUnwritten u → ⊥
 place_not_unwritten (value.Word z) p e = absurd e
@@ -148,6 +156,13 @@ module _ (vars : List VarInfo) (pure : List Conj) (v : Valuation) (fits : Fits v
       by (Some c) None is at h = absurd h
       by (Some c) (Some d) is at h = subst (λ n. T n (place_of (through v σ) b)) (place_is v σ a c is) (subst (T (place_of v c)) (place_is v σ b d at) (from c d h))
 
+  of_quotient : (c : Option Content) (p q : Polynomial) (o : Option Var) → variable_in c ≡ o → IsClaimed v (quotient_claim o (word_through σ p) (word_through σ q)) →
+      IsQuotient (number_of (stood v c) % 2 ^ 32) (word_of (through v σ) p) (word_of (through v σ) q)
+  of_quotient c p q None is h = absurd h
+  of_quotient c p q (Some z) is h =
+      let t = of_words (conjunct.Quotient z) p q (λ m n. IsQuotient (numbers_of v z.0 % 2 ^ 32) m n) h (λ a b e. e) in
+      (t.0, variable_number v c z is ∙ t.1)
+
   pub of_written : (o : Option Content) → ((c : Content) → o ≡ Some c → Good vars pure c) → IsClaimed v (written_claim o) → IsUnwritten (stood v o) → ⊥
   of_written None g h = absurd h
   of_written (Some Unwritten) g h = absurd h
@@ -171,3 +186,4 @@ module _ (vars : List VarInfo) (pure : List Conj) (v : Valuation) (fits : Fits v
   claimed_true (conjunct.OtherPlace a b) k h = (k, of_places conjunct.OtherPlace a b (λ m n. m ≢ n) h (λ c d e. e))
   claimed_true (conjunct.Written x) k h = of_written (content_for σ x.0) (good_for vars pure v fits σ good x.0) h
   claimed_true (conjunct.Unwritten x) k h = of_unwritten (content_for σ x.0) h
+  claimed_true (conjunct.Quotient x p q) k h = (k.0, k.1, k.2, of_quotient (content_for σ x.0) p q (variable_in (content_for σ x.0)) refl h)

@@ -80,6 +80,7 @@ module _ (vars more : List VarInfo) (grown : Grown vars more) (pure says : List 
   conj_grown (conjunct.OtherPlace a b) g = (good_grown vars more grown pure says said (Place a) g.0, good_grown vars more grown pure says said (Place b) g.1)
   conj_grown (conjunct.Written x) g = (grown_below vars more grown x.0 g.0, below_usable x.0 g.0 g.1)
   conj_grown (conjunct.Unwritten x) g = grown_below vars more grown x.0 g
+  conj_grown (conjunct.Quotient x p q) g = (with_grown vars more grown _ x.0 g.0, (words_grown (x.0 ∷ []) (g.1, tt)).0, words_grown (variables_of p) g.2, words_grown (variables_of q) g.3)
 
   own_cell_grown : (t : ValueType) (c : Content) → is_own_cell vars t c ≡ true → is_own_cell more t c ≡ true
   own_cell_grown t Unwritten e = cc

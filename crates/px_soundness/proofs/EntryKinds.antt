@@ -1,5 +1,5 @@
 -- The values that a regular entry uses as words or places are such, where they fit and what is said to be written is.
-use Rattle.std.proofs.Common.{◌≡◌, ℕ, Bool, true, false, not, ◌||◌, Option, Some, List, [], ◌∷◌, slice_get, refl, sym, ap, ◌∙◌, subst}
+use Rattle.std.proofs.Common.{◌≡◌, ℕ, Bool, true, false, not, ◌||◌, Option, Some, List, [], ◌∷◌, slice_get, refl, sym, ap, ◌∙◌, subst, ◌&&◌}
 use Rattle.std.specs.Prelude.{flat_map}
 use Rattle.std.specs.List.{list_all, list_any}
 use Rattle.std.proofs.lemmas.Bool.{and_parts}
@@ -19,7 +19,7 @@ use Rattle.px_terms.specs.declared.conjuncts.Place.TheVariants as place
 use Rattle.px_terms.specs.declared.conjuncts.Conj.{Conj}
 use Rattle.px_terms.specs.declared.conjuncts.Conj.TheVariants as conjunct
 use Rattle.px_entry.specs.declared.entries.Entry.{Entry}
-use Rattle.px_entry.specs.Sorts.{is_some_and, is_cell_sort, is_int_type, is_pointer_type, is_cell, is_int, is_pointer, is_pointer_place, is_well_sorted}
+use Rattle.px_entry.specs.Sorts.{is_some_and, is_cell_sort, is_int_type, is_pointer_type, is_cell, is_int, is_pointer, is_pointer_place, is_well_sorted, is_int_polynomial}
 use Rattle.px_entry.specs.Equality.{same_conjunct}
 use Rattle.px_entry.specs.Regular.{is_said_written, is_used_written, used_by_conjunct}
 use Rattle.px_entry.proofs.Lists.{Each, each_all}
@@ -111,6 +111,11 @@ module _ (x : Entry) (w : Valuation) (fits : Fits x.vars w) (said : (y : ℕ) �
       let u = two_places a b used in (places_kind a r.0 u.0, places_kind b r.1 u.1)
   conj_kinds (conjunct.Written y) e used = tt
   conj_kinds (conjunct.Unwritten y) e used = tt
+  conj_kinds (conjunct.Quotient y p q) e used =
+      let a = and_parts (is_int x.vars y.0) (is_int_polynomial x.vars p && is_int_polynomial x.vars q) e in
+      let b = and_parts (list_all (is_int x.vars) (variables_of p)) (list_all (is_int x.vars) (variables_of q)) a.1 in
+      let u = each_split IsUsed (variables_of p) (variables_of q) used.1 in
+      (word_kind y.0 a.0 used.0, each_all W (variables_of p) (words_kind (variables_of p) b.0 u.0), each_all W (variables_of q) (words_kind (variables_of q) b.1 u.1))
 
   pub kinds : (cs : List Conj) → list_all (is_well_sorted x.vars) cs ≡ true → Each IsUsed (flat_map used_by_conjunct cs) → Each (HasKinds w) cs
   kinds [] e used = tt

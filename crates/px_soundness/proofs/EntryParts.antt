@@ -26,7 +26,7 @@ use Rattle.px_entry.specs.declared.entries.Entry.{Entry}
 use Rattle.px_entry.specs.Sorts.{is_made_sort, is_pointer, is_made, is_pointer_type, same_type, has_type, is_well_sorted, is_some_and}
 use Rattle.px_entry.specs.Contents.{fits_cell, fits_some_type, fit_each, content_variables}
 use Rattle.px_entry.specs.Constraint.{found_atoms, made_atoms}
-use Rattle.px_entry.specs.Regular.{are_given, are_inputs_words, each_once, points_to_block, same_blocks, fits_state, fits_block, state_cells, is_said_written, is_used_written, used_by_conjunct, used_by_atom, used_by_result, used_variables, is_result, are_variables_regular, is_pre_regular, is_post_regular, are_terms_regular, is_regular}
+use Rattle.px_entry.specs.Regular.{are_given, are_inputs_words, is_quotient_input, each_once, points_to_block, same_blocks, fits_state, fits_block, state_cells, is_said_written, is_used_written, used_by_conjunct, used_by_atom, used_by_result, used_variables, is_result, are_variables_regular, is_pre_regular, is_post_regular, are_terms_regular, is_regular}
 use Rattle.px_entry.specs.Standing.{is_block, atom_at}
 use Rattle.px_entry.proofs.Lists.{Each, each_from}
 use Rattle.px_callgraph.specs.Accesses.{atom_of}
@@ -61,13 +61,15 @@ pub record Parts (types : List BlockType) (x : Entry) : Type 0 where
   pub points_pre : list_all (points_to_block x.vars) x.pre ≡ true
   pub once : each_once (λ i. is_made_sort i.sort) (map (λ (a : Atom). a.place.0) (made_atoms x.vars x.post)) 0 x.vars ≡ true
   pub inputs : are_inputs_words x.vars ≡ true
+  pub quotients : list_all (is_quotient_input x.vars) x.pure ≡ true
 
 pub parts : (types : List BlockType) (n : ℕ) (x : Entry) → is_regular types n x ≡ true → Parts types x
 parts types n x e =
     let r = and_parts (are_variables_regular n x && is_pre_regular types x && is_post_regular types x) (are_terms_regular x) e in
     let s = and_parts (are_variables_regular n x && is_pre_regular types x) (is_post_regular types x) r.0 in
     let post = and_parts _ _ s.1 in
-    let terms = and_parts _ _ r.1 in
+    let all = and_parts _ _ r.1 in
+    let terms = and_parts _ _ all.0 in
     let variables = and_parts (are_variables_regular n x) (is_pre_regular types x) s.0 in
     let used = each_from (is_used_written x) (IsUsedIn x) (λ y h. h) (used_variables x) terms.1 in
     let A = flat_map used_by_conjunct x.pure in
@@ -89,6 +91,7 @@ parts types n x e =
       points_pre = (and_parts _ _ (and_parts _ _ (and_parts _ _ variables.1).0).0).0;
       once = post.1;
       inputs = (and_parts _ _ variables.0).1;
+      quotients = all.1;
     }
 
 -- the first variables are the parameters

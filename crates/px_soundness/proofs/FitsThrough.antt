@@ -17,9 +17,9 @@ use Rattle.px_terms.specs.declared.conjuncts.Place.TheVariants as place
 use Rattle.px_terms.specs.declared.conjuncts.Content.{Content}
 use Rattle.px_terms.specs.declared.conjuncts.Content.TheVariants.{Unwritten, Word, Place, Cell}
 use Rattle.px_terms.specs.declared.conjuncts.Conj.{Conj}
-use Rattle.px_terms.specs.Substitutions.{content_for}
+use Rattle.px_terms.specs.Substitutions.{content_for, variable}
 use Rattle.px_terms.proofs.WordLaws.{words_are_signed}
-use Rattle.px_entry.specs.Sorts.{is_cell_sort, same_type, is_pointer_type, is_cell, is_made, has_type}
+use Rattle.px_entry.specs.Sorts.{is_cell_sort, same_type, is_pointer_type, is_cell, is_made, has_type, is_input, is_input_sort}
 use Rattle.px_entry.specs.Contents.{is_written_of, fits_cell}
 use Rattle.px_entry.specs.Standing.{content_value}
 use Rattle.px_entry.proofs.Lists.{Each}
@@ -33,11 +33,11 @@ use Rattle.px_terms.proofs.TermWords.{below}
 
 -- ---- what may stand for a variable
 
--- by its sort and type
+-- by its sort and type; for an input a variable that is one too
 abbrev pub Suits : List VarInfo → Sort → ValueType → Content → Type 0
 Suits vars sort.Given t c = is_written_of vars t c ≡ true
 Suits vars sort.Cell t c = fits_cell vars t c ≡ true
-Suits vars sort.Input t c = is_written_of vars t c ≡ true
+Suits vars sort.Input t c = (m : ℕ) × (c ≡ Word (variable m)) × (is_input vars m ≡ true) × (is_written_of vars t c ≡ true)
 Suits vars sort.Made t c = (m : Var) × (c ≡ Place (place.Var m)) × (is_made vars m.0 ≡ true) × (has_type vars t m.0 ≡ true)
 
 -- the variable that a content is
@@ -53,6 +53,21 @@ pub record Stands (vars : List VarInfo) (pure : List Conj) (xs : List VarInfo) (
   pub content : (x : ℕ) (i : VarInfo) → slice_get xs x ≡ Some i → (c : Content) × (content_for σ x ≡ Some c) × Good vars pure c × Suits vars i.sort i.value c
   pub apart : (x y : ℕ) (i k : VarInfo) (c d : Content) (m n : ℕ) → slice_get xs x ≡ Some i → slice_get xs y ≡ Some k → i.sort ≡ sort.Made → x ≢ y →
       content_for σ x ≡ Some c → content_for σ y ≡ Some d → variable_of c ≡ Some m → variable_of d ≡ Some n → m ≢ n
+
+input_suits : (vars : List VarInfo) (s : Sort) (t : ValueType) (c : Content) → is_input_sort s ≡ true → Suits vars s t c → Suits vars sort.Input t c
+input_suits vars sort.Given t c e h = cc
+input_suits vars sort.Cell t c e h = cc
+input_suits vars sort.Input t c e h = h
+input_suits vars sort.Made t c e h = cc
+
+-- an input stands for an input
+pub input_content : (vars : List VarInfo) (pure : List Conj) (xs : List VarInfo) (σ : Substitution) → Stands vars pure xs σ → (y : ℕ) → is_input xs y ≡ true →
+    (m : ℕ) × (content_for σ y ≡ Some (Word (variable m))) × (is_input vars m ≡ true) × Good vars pure (Word (variable m))
+input_content vars pure xs σ stands y e =
+    let (i, at, input) = variable_is xs (λ (i : VarInfo). is_input_sort i.sort) y e in
+    let (c, is, g, h) = stands.content y i at in
+    let (m, same, here, written) = input_suits vars i.sort i.value c input h in
+    (m, is ∙ ap Some same, here, subst (Good vars pure) same g)
 
 pub same_is : (s t : ValueType) → same_type s t ≡ true → s ≡ t
 same_is Int Int e = refl
@@ -103,7 +118,7 @@ module _ (vars : List VarInfo) (pure : List Conj) (v : Valuation) (fits : Fits v
   sort_value : (s : Sort) (t : ValueType) (c : Content) → Suits vars s t c → Good vars pure c → FitsSort s t (content_value v c)
   sort_value sort.Given t c h g = written_value t c h g
   sort_value sort.Cell t c h g = cell_value t c h g
-  sort_value sort.Input t c h g = written_value t c h g
+  sort_value sort.Input t c h g = written_value t c h.3 g
   sort_value sort.Made t c (m, is, made, type) g = subst (λ z. FitsSort sort.Made t (content_value v z)) (sym is) (made_value t m.0 made type)
 
   -- ---- the variable of a block
@@ -132,7 +147,7 @@ module _ (vars : List VarInfo) (pure : List Conj) (v : Valuation) (fits : Fits v
 
   variable_type : (s : Sort) (b : TypeId) (c : Content) (m : ℕ) → Suits vars s (Pointer b) c → variable_of c ≡ Some m → has_type vars (Pointer b) m ≡ true
   variable_type sort.Given b c m h f = written_type b c m h f
-  variable_type sort.Input b c m h f = written_type b c m h f
+  variable_type sort.Input b c m h f = written_type b c m h.3 f
   variable_type sort.Made b c m (x, is, made, type) f = let g : x.0 ≡ m = same_Some _ _ (sym (ap variable_of is) ∙ f) in subst (λ z. has_type vars (Pointer b) z ≡ true) g type
   variable_type sort.Cell b Unwritten m h f = absent f
   variable_type sort.Cell b (Word p) m h f = absent f

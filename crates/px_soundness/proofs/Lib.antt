@@ -23,6 +23,7 @@ pub mod DerivedAgain
 pub mod Entries
 pub mod CallFrames
 pub mod Through
+pub mod VariableWords
 pub mod ClaimsThrough
 pub mod FitsThrough
 pub mod EntryKinds

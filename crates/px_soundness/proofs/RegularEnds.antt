@@ -24,7 +24,7 @@ use Rattle.px_entry.specs.declared.entries.Exit.TheVariants.{Ok, Error}
 use Rattle.px_entry.specs.Sorts.{is_given_sort, is_cell_sort, is_made_sort, is_int, is_pointer_place, is_well_sorted}
 use Rattle.px_entry.specs.Constraint.{made_atoms}
 use Rattle.px_entry.specs.Contents.{fits_cell, fits_some_type, fit_each, content_variables}
-use Rattle.px_entry.specs.Regular.{are_given, stands_once, each_once, points_to_block, fits_state, fits_block, is_own_cell, state_cells, cells_of, used_by_conjunct, used_by_atom, used_by_result, used_variables, is_used_written, is_result, are_variables_regular, is_pre_regular, is_post_regular, are_terms_regular, FitsResult, IsRegular}
+use Rattle.px_entry.specs.Regular.{are_given, stands_once, each_once, points_to_block, fits_state, fits_block, is_own_cell, state_cells, cells_of, is_quotient_input, used_by_conjunct, used_by_atom, used_by_result, used_variables, is_used_written, is_result, are_variables_regular, is_pre_regular, is_post_regular, are_terms_regular, FitsResult, IsRegular}
 use Rattle.px_entry.proofs.Lists.{Each, each_append, each_to}
 use Rattle.px_callgraph.specs.declared.states.State.{State}
 use Rattle.px_callgraph.specs.JobTree.{JobTree}
@@ -93,6 +93,18 @@ module _ (vars : List VarInfo) (pure : List Conj) where
   conj_sorted (conjunct.OtherPlace a b) g = and_from _ _ (place_sorted a g.0) (place_sorted b g.1)
   conj_sorted (conjunct.Written x) g = lt-ltb x.0 (length vars) g.0
   conj_sorted (conjunct.Unwritten x) g = lt-ltb x.0 (length vars) g
+  conj_sorted (conjunct.Quotient x p q) g = and_from _ _ g.1.0 (and_from _ _ (words_sorted (variables_of p) g.2) (words_sorted (variables_of q) g.3))
+
+  conj_input : (c : Conj) → GoodConj vars pure c → is_quotient_input vars c ≡ true
+  conj_input (conjunct.Equal p) g = refl
+  conj_input (conjunct.Unequal p) g = refl
+  conj_input (conjunct.Less p q) g = refl
+  conj_input (conjunct.AtMost p q) g = refl
+  conj_input (conjunct.SamePlace a b) g = refl
+  conj_input (conjunct.OtherPlace a b) g = refl
+  conj_input (conjunct.Written x) g = refl
+  conj_input (conjunct.Unwritten x) g = refl
+  conj_input (conjunct.Quotient x p q) g = g.0
 
   conj_usable : (c : Conj) → GoodConj vars pure c → Each Usable (used_by_conjunct c)
   conj_usable (conjunct.Equal p) g = words_usable (variables_of p) g
@@ -103,6 +115,7 @@ module _ (vars : List VarInfo) (pure : List Conj) where
   conj_usable (conjunct.OtherPlace a b) g = each_append Usable (place_variables a) (place_variables b) (place_usable a g.0) (place_usable b g.1)
   conj_usable (conjunct.Written x) g = (g.1, tt)
   conj_usable (conjunct.Unwritten x) g = tt
+  conj_usable (conjunct.Quotient x p q) g = (g.1.1, each_append Usable (variables_of p) (variables_of q) (words_usable (variables_of p) g.2) (words_usable (variables_of q) g.3))
 
   good_type : (c : Content) → Good vars pure c → fits_some_type vars c ≡ true
   good_type Unwritten g = refl
@@ -175,7 +188,8 @@ module _ (j : JobTree) (t : State) (well_typed : WellTyped j.types t) (complete 
       (each_flat U used_by_atom t.atoms (each_weaker (GoodAtom j.types t.vars t.pure) (λ a. Each U (used_by_atom a)) (atom_usable t.vars t.pure j.types) t.atoms well_typed.atoms)))
       result_usable in
       let terms : are_terms_regular x ≡ true =
-      and_from _ _ (and_from _ _ (each_to (is_well_sorted t.vars) (GoodConj t.vars t.pure) (conj_sorted t.vars t.pure) t.pure complete.conjuncts) result) (test_all (is_used_written x) (used_variables x) used) in
+      and_from _ _ (and_from _ _ (and_from _ _ (each_to (is_well_sorted t.vars) (GoodConj t.vars t.pure) (conj_sorted t.vars t.pure) t.pure complete.conjuncts) result) (test_all (is_used_written x) (used_variables x) used))
+      (each_to (is_quotient_input t.vars) (GoodConj t.vars t.pure) (conj_input t.vars t.pure) t.pure complete.conjuncts) in
       record {
         regular = and_from _ _ (and_from _ _ (and_from _ _ variables pre) post) terms;
         given = ap (λ vs. map (λ (i : VarInfo). i.value) (take (length j.body.parameters) vs)) complete.split ∙ given_types j.body.parameters complete.more;

@@ -4,10 +4,10 @@ use Rattle.std.specs.Prelude.{◌<ℤ◌, ◌≤ℤ◌, ℤ, int_lt, int_le, opt
 use Rattle.std.specs.List.{list_any}
 use Rattle.std.proofs.lemmas.Bool.{and_parts, eqb-true}
 use Rattle.std.proofs.lemmas.Bool.Decides.{nat_tests}
-use Rattle.px_terms.specs.Words.{signed}
+use Rattle.px_terms.specs.Words.{signed, IsQuotient}
 use Rattle.px_terms.specs.Terms.{Term}
 use Rattle.px_terms.specs.Polynomials.{Polynomial, IsPolynomial}
-use Rattle.px_terms.specs.Valuations.{Valuation, IsBlock, IsUnwritten, HasType, FitsSort, Fits}
+use Rattle.px_terms.specs.Valuations.{Valuation, IsBlock, IsUnwritten, HasType, FitsSort, Fits, numbers_of}
 use Rattle.px_terms.specs.Conjuncts.{word_of, place_of, IsTrueUnder}
 use Rattle.px_terms.specs.declared.types.Value.{Value}
 use Rattle.px_terms.specs.declared.types.Value.TheVariants as value
@@ -18,7 +18,7 @@ use Rattle.px_terms.specs.declared.variables.Sort.TheVariants as sort
 use Rattle.px_terms.specs.declared.conjuncts.Place.{Place}
 use Rattle.px_terms.specs.declared.conjuncts.Place.TheVariants as place
 use Rattle.px_terms.specs.declared.conjuncts.Conj.{Conj}
-use Rattle.px_terms.specs.declared.conjuncts.Conj.TheVariants.{Equal, Unequal, Less, AtMost, SamePlace, OtherPlace, Written, Unwritten}
+use Rattle.px_terms.specs.declared.conjuncts.Conj.TheVariants.{Equal, Unequal, Less, AtMost, SamePlace, OtherPlace, Written, Unwritten, Quotient}
 use Rattle.px_entry.specs.Sorts.{is_variable_with, is_some_and, is_made_sort, is_made, is_pointer, is_pointer_place, is_well_sorted, is_long_conjunct}
 use Rattle.px_entry.specs.Equality.{same_conjunct}
 use Rattle.px_entry.specs.Decided.{is_less, is_at_most, is_same_place, decided, is_true, is_false, is_open, stands_in, assume}
@@ -37,6 +37,7 @@ Says v (SamePlace a b) = place_of v a ≡ place_of v b
 Says v (OtherPlace a b) = place_of v a ≢ place_of v b
 Says v (Written x) = ¬ IsUnwritten (v x.0)
 Says v (Unwritten x) = IsUnwritten (v x.0)
+Says v (Quotient x p q) = IsQuotient (numbers_of v x.0 % 2 ^ 32) (word_of v p) (word_of v q)
 
 pub true_says : (v : Valuation) (c : Conj) → IsTrueUnder v c → Says v c
 true_says v (Equal p) h = h.1
@@ -47,6 +48,7 @@ true_says v (SamePlace a b) h = h.1
 true_says v (OtherPlace a b) h = h.1
 true_says v (Written x) h = h
 true_says v (Unwritten x) h = h
+true_says v (Quotient x p q) h = h.3
 
 -- polynomials are in normal form
 abbrev pub HasForm : Conj → Type 0
@@ -58,6 +60,7 @@ HasForm (SamePlace a b) = Unit {0}
 HasForm (OtherPlace a b) = Unit {0}
 HasForm (Written x) = Unit {0}
 HasForm (Unwritten x) = Unit {0}
+HasForm (Quotient x p q) = IsPolynomial p × IsPolynomial q
 
 -- ---- variables
 
@@ -206,6 +209,7 @@ decided_says vars v (OtherPlace a b) fits open' form e =
     other_places vars v fits a b w.0 w.1 (not_some (is_same_place vars a b) e)
 decided_says vars v (Written x) fits open' form e = cc
 decided_says vars v (Unwritten x) fits open' form e = cc
+decided_says vars v (Quotient x p q) fits open' form e = cc
 
 -- ---- assumed conjuncts
 

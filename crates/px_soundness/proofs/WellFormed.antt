@@ -18,7 +18,7 @@ use Rattle.px_core.specs.Control.{Turns, Item, Act, AfterHead, AfterBody, AfterS
 use Rattle.px_entry.specs.Constraint.{found_atoms, made_atoms}
 use Rattle.px_entry.specs.Contents.{fits_cell}
 use Rattle.px_entry.specs.Regular.{is_said_written, points_to_block, fits_block, state_cells, is_own_cell, are_inputs_words, cells_of, are_reached, same_blocks}
-use Rattle.px_entry.specs.Sorts.{is_cell_sort, is_cell, is_int, is_pointer, is_made_sort, is_made, is_given_sort}
+use Rattle.px_entry.specs.Sorts.{is_cell_sort, is_cell, is_int, is_pointer, is_made_sort, is_made, is_given_sort, is_input}
 use Rattle.px_entry.specs.declared.atoms.Atom.{Atom}
 use Rattle.px_entry.specs.declared.entries.Exit.TheVariants.{Ok, Error}
 use Rattle.px_entry.proofs.Lists.{Each}
@@ -74,7 +74,7 @@ abbrev pub times : ℕ → List ℕ → ℕ
 times x [] = 0
 times x (y ∷ ys) = cond (nat_eq x y) (1 + times x ys) (times x ys)
 
--- variables are used by their types, and those of cells are said to be written
+-- variables are used by their types, those of cells are said to be written, and quotients are inputs
 abbrev pub GoodConj : List VarInfo → List Conj → Conj → Type 0
 GoodConj vars pure (conjunct.Equal p) = Each (UsableWord vars pure) (variables_of p)
 GoodConj vars pure (conjunct.Unequal p) = Each (UsableWord vars pure) (variables_of p)
@@ -84,6 +84,7 @@ GoodConj vars pure (conjunct.SamePlace a b) = Good vars pure (Place a) × Good v
 GoodConj vars pure (conjunct.OtherPlace a b) = Good vars pure (Place a) × Good vars pure (Place b)
 GoodConj vars pure (conjunct.Written x) = (x.0 < length vars) × (is_usable vars pure x.0 ≡ true)
 GoodConj vars pure (conjunct.Unwritten x) = x.0 < length vars
+GoodConj vars pure (conjunct.Quotient x p q) = (is_input vars x.0 ≡ true) × UsableWord vars pure x.0 × Each (UsableWord vars pure) (variables_of p) × Each (UsableWord vars pure) (variables_of q)
 
 -- a block that was found
 pub record GoodFound (types : List BlockType) (vars : List VarInfo) (pure : List Conj) (a : Atom) : Type 0 where

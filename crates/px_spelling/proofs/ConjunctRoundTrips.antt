@@ -29,3 +29,4 @@ conj_round_trip (J.SamePlace a b) fits = tagged 4 conj_with (done_reads J.SamePl
 conj_round_trip (J.OtherPlace a b) fits = tagged 5 conj_with (done_reads J.OtherPlace ⊛ place_round_trip a fits.0 ⊛ place_round_trip b fits.1)
 conj_round_trip (J.Written a) fits = tagged 6 conj_with (done_reads J.Written ⊛ var_round_trip a fits)
 conj_round_trip (J.Unwritten a) fits = tagged 7 conj_with (done_reads J.Unwritten ⊛ var_round_trip a fits)
+conj_round_trip (J.Quotient x a b) fits = tagged 8 conj_with (done_reads J.Quotient ⊛ var_round_trip x fits.0 ⊛ polynomial_round_trip a fits.1 ⊛ polynomial_round_trip b fits.2)

@@ -62,6 +62,7 @@ conj_bytes (J.SamePlace a b) = 4 ∷ (place_bytes a ++ place_bytes b)
 conj_bytes (J.OtherPlace a b) = 5 ∷ (place_bytes a ++ place_bytes b)
 conj_bytes (J.Written a) = 6 ∷ var_bytes a
 conj_bytes (J.Unwritten a) = 7 ∷ var_bytes a
+conj_bytes (J.Quotient x a b) = 8 ∷ (var_bytes x ++ polynomial_bytes a ++ polynomial_bytes b)
 
 abbrev pub IsConj : Conj → Type 0
 IsConj (J.Equal a) = IsPolynomialInRange a
@@ -72,6 +73,7 @@ IsConj (J.SamePlace a b) = IsPlace a × IsPlace b
 IsConj (J.OtherPlace a b) = IsPlace a × IsPlace b
 IsConj (J.Written a) = IsVar a
 IsConj (J.Unwritten a) = IsVar a
+IsConj (J.Quotient x a b) = IsVar x × IsPolynomialInRange a × IsPolynomialInRange b
 
 unfoldable pub conj_with : ℕ → Reader Conj
 conj_with tag =
@@ -82,7 +84,8 @@ conj_with tag =
     if tag == 4 then done J.SamePlace <*> place_at <*> place_at else (
     if tag == 5 then done J.OtherPlace <*> place_at <*> place_at else (
     if tag == 6 then done J.Written <*> var_at else (
-    if tag == 7 then done J.Unwritten <*> var_at else nothing)))))))
+    if tag == 7 then done J.Unwritten <*> var_at else (
+    if tag == 8 then done J.Quotient <*> var_at <*> polynomial_at <*> polynomial_at else nothing))))))))
 
 unfoldable pub conj_at : Reader Conj
 conj_at = u8_at >>= conj_with

@@ -1,3 +1,6 @@
+ghost use Rattle.std.specs.Prelude.{◌≡◌, ◌++◌};
+ghost use Rattle.px_spelling.specs.Types.{var_bytes};
+ghost use Rattle.px_spelling.specs.Polynomials.{polynomial_bytes};
 ghost use Rattle.px_spelling.specs.Conjuncts.{place_bytes, IsPlace, place_at, content_bytes, IsContent, content_at, conj_bytes, IsConj, conj_at};
 
 use crate::{Output, Wire, WireFault};
@@ -98,6 +101,22 @@ impl Wire for Content {
     }
 }
 
+// Puts the parts of a quotient after others.
+fn write_quotient<O: Output>(
+    var: Var,
+    left: &Poly,
+    right: &Poly,
+    out: &mut O,
+    target: &mut O::Target,
+)
+    ensures written { O.written out.new ≡ O.written out.old ++ (var_bytes var ++ polynomial_bytes left.now ++ polynomial_bytes right.now) }
+    ensures reached { (from : O.Target) → O.reaches from out.old target.old → O.reaches from out.new target.new }
+{
+    var.write(out, target);
+    left.write(out, target);
+    right.write(out, target)
+}
+
 impl Wire for Conj {
     ghost bytes_of = { conj_bytes };
 
@@ -143,6 +162,10 @@ impl Wire for Conj {
                 7u8.write(out, target);
                 var.write(out, target)
             }
+            Conj::Quotient(var, left, right) => {
+                8u8.write(out, target);
+                write_quotient(*var, left, right, out, target)
+            }
         }
     }
 
@@ -186,6 +209,12 @@ impl Wire for Conj {
                 let (var, rest) = Var::read(alloc, rest)?;
                 Ok((Conj::Unwritten(var), rest))
             }
+            8 => {
+                let (var, rest) = Var::read(alloc, rest)?;
+                let (left, rest) = Poly::read(alloc, rest)?;
+                let (right, rest) = Poly::read(alloc, rest)?;
+                Ok((Conj::Quotient(var, left, right), rest))
+            }
             _ => Err(WireFault::NotAMessage),
         }
     }
@@ -200,6 +229,9 @@ impl Wire for Conj {
                 left.is_in_range() && right.is_in_range()
             }
             Conj::Written(var) | Conj::Unwritten(var) => var.is_in_range(),
+            Conj::Quotient(var, left, right) => {
+                var.is_in_range() && left.is_in_range() && right.is_in_range()
+            }
         }
     }
 }

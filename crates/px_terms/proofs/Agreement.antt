@@ -11,8 +11,8 @@ use Rattle.px_terms.specs.declared.variables.VarInfo.{VarInfo}
 use Rattle.px_terms.specs.declared.conjuncts.Place.{Place}
 use Rattle.px_terms.specs.declared.conjuncts.Place.TheVariants as place
 use Rattle.px_terms.specs.declared.conjuncts.Conj.{Conj}
-use Rattle.px_terms.specs.declared.conjuncts.Conj.TheVariants.{Equal, Unequal, Less, AtMost, SamePlace, OtherPlace, Written, Unwritten}
-use Rattle.px_terms.specs.Words.{signed}
+use Rattle.px_terms.specs.declared.conjuncts.Conj.TheVariants.{Equal, Unequal, Less, AtMost, SamePlace, OtherPlace, Written, Unwritten, Quotient}
+use Rattle.px_terms.specs.Words.{signed, word_quotient}
 use Rattle.px_terms.proofs.NormalForm.{AllHave}
 use Rattle.px_terms.proofs.Evaluation.{All-left, All-right, each_from_flat}
 
@@ -72,6 +72,16 @@ module _ (v u : Valuation) where
       ((subst IsPlace e t.0.0, subst IsPlace f t.0.1), λ g. t.1 (e ∙ g ∙ sym f))
   truth_agrees (Written x) h t = λ z. t (subst IsUnwritten (sym (All-head (λ x. v x ≡ u x) x.0 [] h)) z)
   truth_agrees (Unwritten x) h t = subst IsUnwritten (All-head (λ x. v x ≡ u x) x.0 [] h) t
+  truth_agrees (Quotient x p q) h t =
+      let e = All-head (λ x. v x ≡ u x) x.0 (variables_of p ++ variables_of q) h in
+      let rest = All-tail (λ x. v x ≡ u x) x.0 (variables_of p ++ variables_of q) h in
+      let a = All-left (λ x. v x ≡ u x) (variables_of p) (variables_of q) rest in
+      let b = All-right (λ x. v x ≡ u x) (variables_of p) (variables_of q) rest in (
+        subst IsWord e t.0,
+        words_agree p a t.1,
+        words_agree q b t.2,
+        (λ z. t.3.0 (word_agrees q b ∙ z), sym (ap (λ z. number_of z % 2 ^ 32) e) ∙ t.3.1 ∙ ap₂ word_quotient (word_agrees p a) (word_agrees q b)),
+      )
 
 -- ---- variables that are added
 

@@ -9,7 +9,7 @@ use Rattle.px_terms.specs.Rules.{HoldsModuloTwo}
 use Rattle.px_terms.specs.declared.types.ValueType.TheVariants.{Int}
 use Rattle.px_terms.specs.declared.variables.VarInfo.{VarInfo}
 use Rattle.px_terms.specs.declared.conjuncts.Conj.{Conj}
-use Rattle.px_terms.specs.declared.conjuncts.Conj.TheVariants.{Equal, Unequal, Less, AtMost, SamePlace, OtherPlace, Written, Unwritten}
+use Rattle.px_terms.specs.declared.conjuncts.Conj.TheVariants.{Equal, Unequal, Less, AtMost, SamePlace, OtherPlace, Written, Unwritten, Quotient}
 
 pub int_below : (vars : List VarInfo) (x : ℕ) → IsIntVariable vars x → x < length vars
 int_below vars x h = within (slice_get vars x) refl h
@@ -37,3 +37,4 @@ true_modulo_two v (SamePlace a b) h = tt
 true_modulo_two v (OtherPlace a b) h = tt
 true_modulo_two v (Written y) h = tt
 true_modulo_two v (Unwritten y) h = tt
+true_modulo_two v (Quotient y p q) h = tt

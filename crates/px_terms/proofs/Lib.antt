@@ -23,3 +23,4 @@ pub mod Places
 pub mod TruthProps
 pub mod DomainLemmas
 pub mod Outcomes
+pub mod QuotientLemmas

@@ -7,7 +7,7 @@ use Rattle.px_terms.specs.Conjuncts.{IsTrueUnder}
 use Rattle.px_terms.specs.declared.types.Value.{Value}
 use Rattle.px_terms.specs.declared.types.Value.TheVariants as value
 use Rattle.px_terms.specs.declared.conjuncts.Conj.{Conj}
-use Rattle.px_terms.specs.declared.conjuncts.Conj.TheVariants.{Equal, Unequal, Less, AtMost, SamePlace, OtherPlace, Written, Unwritten}
+use Rattle.px_terms.specs.declared.conjuncts.Conj.TheVariants.{Equal, Unequal, Less, AtMost, SamePlace, OtherPlace, Written, Unwritten, Quotient}
 
 pub is_word : (u : Value) → IsProp (IsWord u)
 is_word (value.Word z) = hlevel props
@@ -36,6 +36,7 @@ true_prop v (SamePlace a b) = hlevel (props, is_place)
 true_prop v (OtherPlace a b) = hlevel (props, is_place)
 true_prop v (Written x) = hlevel (props, is_unwritten)
 true_prop v (Unwritten x) = hlevel (props, is_unwritten)
+true_prop v (Quotient x p q) = hlevel (props, is_word)
 
 pub all_true_prop : (v : Valuation) (cs : List Conj) → IsProp (All (IsTrueUnder v) cs)
 all_true_prop v cs = hlevel (props, true_prop)

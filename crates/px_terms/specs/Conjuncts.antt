@@ -1,6 +1,6 @@
 -- When conjuncts are true, well sorted and plain.
-use Rattle.std.specs.Prelude.{◌≡◌, ◌≢◌, ℕ, ◌-◌, ◌^◌, ◌<◌, ◌≤◌, ◌<ℤ◌, ◌≤ℤ◌, ◌⊎◌, List, [], ◌∷◌, All, length, IsSomeAnd, slice_get, ⊤}
-use Rattle.px_terms.specs.Words.{signed}
+use Rattle.std.specs.Prelude.{◌≡◌, ◌≢◌, ℕ, ◌-◌, ◌%◌, ◌^◌, ◌<◌, ◌≤◌, ◌<ℤ◌, ◌≤ℤ◌, ◌⊎◌, List, [], ◌∷◌, All, length, IsSomeAnd, slice_get, ⊤}
+use Rattle.px_terms.specs.Words.{signed, IsQuotient}
 use Rattle.px_terms.specs.Terms.{Term}
 use Rattle.px_terms.specs.Polynomials.{Polynomial, value_of}
 use Rattle.px_terms.specs.Variables.{variables_of}
@@ -13,7 +13,7 @@ use Rattle.px_terms.specs.declared.variables.VarInfo.{VarInfo}
 use Rattle.px_terms.specs.declared.conjuncts.Place.{Place}
 use Rattle.px_terms.specs.declared.conjuncts.Place.TheVariants as place
 use Rattle.px_terms.specs.declared.conjuncts.Conj.{Conj}
-use Rattle.px_terms.specs.declared.conjuncts.Conj.TheVariants.{Equal, Unequal, Less, AtMost, SamePlace, OtherPlace, Written, Unwritten}
+use Rattle.px_terms.specs.declared.conjuncts.Conj.TheVariants.{Equal, Unequal, Less, AtMost, SamePlace, OtherPlace, Written, Unwritten, Quotient}
 
 -- ---- truth
 
@@ -44,6 +44,7 @@ IsTrueUnder v (SamePlace a b) = ArePlaces v a b × (place_of v a ≡ place_of v 
 IsTrueUnder v (OtherPlace a b) = ArePlaces v a b × (place_of v a ≢ place_of v b)
 IsTrueUnder v (Written x) = ¬ IsUnwritten (v x.0)
 IsTrueUnder v (Unwritten x) = IsUnwritten (v x.0)
+IsTrueUnder v (Quotient x p q) = IsWord (v x.0) × HasWords v p × HasWords v q × IsQuotient (numbers_of v x.0 % 2 ^ 32) (word_of v p) (word_of v q)
 
 -- ---- sorts
 
@@ -74,6 +75,7 @@ IsWellSorted vars (SamePlace a b) = IsPointerPlace vars a × IsPointerPlace vars
 IsWellSorted vars (OtherPlace a b) = IsPointerPlace vars a × IsPointerPlace vars b
 IsWellSorted vars (Written x) = x.0 < length vars
 IsWellSorted vars (Unwritten x) = x.0 < length vars
+IsWellSorted vars (Quotient x p q) = IsIntVariable vars x.0 × IsIntPolynomial vars p × IsIntPolynomial vars q
 
 -- a list of conjuncts is well sorted over a list of variables
 pub record AreWellSorted (vars : List VarInfo) (conjuncts : List Conj) : Type 0 where
@@ -108,6 +110,7 @@ IsPlain (SamePlace a b) = ⊤
 IsPlain (OtherPlace a b) = ⊤
 IsPlain (Written x) = ⊤
 IsPlain (Unwritten x) = ⊤
+IsPlain (Quotient x p q) = ⊥
 
 -- a valuation makes the plain conjuncts true
 abbrev pub MakesPlainTrue : Valuation → List Conj → Type 0

@@ -7,7 +7,7 @@ use Rattle.px_terms.specs.Polynomials.{Polynomial}
 use Rattle.px_terms.specs.Conjuncts.{IsUnit, IsTrueUnder}
 use Rattle.px_terms.specs.declared.types.Value.TheVariants.{Word}
 use Rattle.px_terms.specs.declared.conjuncts.Conj.{Conj}
-use Rattle.px_terms.specs.declared.conjuncts.Conj.TheVariants.{Equal, Unequal, Less, AtMost, SamePlace, OtherPlace, Written, Unwritten}
+use Rattle.px_terms.specs.declared.conjuncts.Conj.TheVariants.{Equal, Unequal, Less, AtMost, SamePlace, OtherPlace, Written, Unwritten, Quotient}
 
 -- ---- forms of polynomials
 
@@ -41,6 +41,7 @@ BoundsVariable x (SamePlace a b) = ⊥
 BoundsVariable x (OtherPlace a b) = ⊥
 BoundsVariable x (Written y) = ⊥
 BoundsVariable x (Unwritten y) = ⊥
+BoundsVariable x (Quotient y p q) = ⊥
 
 -- the word z is within all bounds of x
 abbrev pub IsWithinBounds : List Conj → ℕ → ℤ → Type 0
@@ -62,6 +63,7 @@ HoldsModuloTwo v (SamePlace a b) = ⊤
 HoldsModuloTwo v (OtherPlace a b) = ⊤
 HoldsModuloTwo v (Written y) = ⊤
 HoldsModuloTwo v (Unwritten y) = ⊤
+HoldsModuloTwo v (Quotient y p q) = ⊤
 
 -- the equalities of degree at most 1 have no solution modulo 2
 abbrev pub ParityRulesOut : List Conj → Type 0
@@ -79,6 +81,7 @@ HoldsInIntegers v (SamePlace a b) = ⊤
 HoldsInIntegers v (OtherPlace a b) = ⊤
 HoldsInIntegers v (Written z) = ⊤
 HoldsInIntegers v (Unwritten z) = ⊤
+HoldsInIntegers v (Quotient z p q) = ⊤
 
 -- the orders and equalities between two variables have no solution in the integers
 abbrev pub OrderRulesOut : List Conj → Type 0

@@ -4,7 +4,7 @@ use Rattle.px_terms.specs.Polynomials.{Polynomial}
 use Rattle.px_terms.specs.declared.conjuncts.Place.{Place}
 use Rattle.px_terms.specs.declared.conjuncts.Place.TheVariants as place
 use Rattle.px_terms.specs.declared.conjuncts.Conj.{Conj}
-use Rattle.px_terms.specs.declared.conjuncts.Conj.TheVariants.{Equal, Unequal, Less, AtMost, SamePlace, OtherPlace, Written, Unwritten}
+use Rattle.px_terms.specs.declared.conjuncts.Conj.TheVariants.{Equal, Unequal, Less, AtMost, SamePlace, OtherPlace, Written, Unwritten, Quotient}
 
 -- the variables of a polynomial, in the order of its monomials
 abbrev pub variables_of : Polynomial → List ℕ
@@ -25,3 +25,4 @@ mentioned (SamePlace a b) = place_variables a ++ place_variables b
 mentioned (OtherPlace a b) = place_variables a ++ place_variables b
 mentioned (Written x) = x.0 ∷ []
 mentioned (Unwritten x) = x.0 ∷ []
+mentioned (Quotient x p q) = x.0 ∷ (variables_of p ++ variables_of q)

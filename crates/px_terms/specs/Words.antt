@@ -2,7 +2,7 @@
 -- numbers modulo 2^32; it is read as a signed number in two's complement, as C's `int` is. C17 6.5
 -- leaves an `int` result that doesn't fit undefined: here it wraps, as it does on the machines that
 -- are meant.
-use Rattle.std.specs.Prelude.{◌≡◌, ℕ, ◌+◌, ◌-◌, ◌*◌, ◌%◌, ◌^◌, ◌<◌, ℤ, ◌+ℤ◌, ◌-ℤ◌, ◌*ℤ◌, neg_ℤ, ◌<ℤ◌, ◌≤ℤ◌, ◌⊎◌, FitsSigned}
+use Rattle.std.specs.Prelude.{◌≡◌, ℕ, ◌+◌, ◌-◌, ◌*◌, ◌%◌, ◌^◌, ◌<◌, ℤ, ◌+ℤ◌, ◌-ℤ◌, ◌*ℤ◌, neg_ℤ, int_div, ◌≢◌, ◌<ℤ◌, ◌≤ℤ◌, ◌⊎◌, FitsSigned}
 use Rattle.std.specs.Int.{w32, int_wrap, cast_signed, cast_unsigned}
 
 -- the word of a signed number from -2^31 to 2^31 - 1
@@ -25,6 +25,18 @@ word_product a b = (a * b) % 2 ^ 32
 -- the word that makes 0 with another
 abbrev pub word_negated : ℕ → ℕ
 word_negated a = (2 ^ 32 - a) % 2 ^ 32
+
+-- the quotient of two signed numbers, truncated towards zero (C17 6.5.5), and wrapped: that of the least by -1 is the least
+abbrev pub quotient_of : ℤ → ℤ → ℤ
+quotient_of x y = int_wrap w32 (int_div x y)
+
+-- the quotient of two words, as signed numbers
+abbrev pub word_quotient : ℕ → ℕ → ℕ
+word_quotient m n = word (quotient_of (signed m) (signed n))
+
+-- the word q is the quotient of m by n; nothing is one by 0
+abbrev pub IsQuotient : ℕ → ℕ → ℕ → Type 0
+IsQuotient q m n = (n ≢ 0) × (q ≡ word_quotient m n)
 
 -- words are a ring
 pub record WordsAreRing : Type 0 where

@@ -39,6 +39,8 @@ pub enum Conj {
     Written(Var),
     /// The variable's value was never written.
     Unwritten(Var),
+    /// The second polynomial isn't 0, and the variable is the quotient of the first by it, truncated towards zero and wrapped.
+    Quotient(Var, Poly, Poly),
 }
 
 impl Content {
@@ -82,6 +84,7 @@ impl Conj {
             Conj::OtherPlace(a, b) => Conj::OtherPlace(*a, *b),
             Conj::Written(x) => Conj::Written(*x),
             Conj::Unwritten(x) => Conj::Unwritten(*x),
+            Conj::Quotient(x, p, q) => Conj::Quotient(*x, p.copy()?, q.copy()?),
         })
     }
 
@@ -98,6 +101,9 @@ impl Conj {
             (Conj::OtherPlace(a, b), Conj::OtherPlace(c, d)) => *a == *c && *b == *d,
             (Conj::Written(x), Conj::Written(y)) => *x == *y,
             (Conj::Unwritten(x), Conj::Unwritten(y)) => *x == *y,
+            (Conj::Quotient(x, p, q), Conj::Quotient(y, r, s)) => {
+                *x == *y && p.equals(r) && q.equals(s)
+            }
             _ => false,
         }
     }
@@ -121,7 +127,8 @@ impl Drop for Conj {
             | Conj::SamePlace(_, _)
             | Conj::OtherPlace(_, _)
             | Conj::Written(_)
-            | Conj::Unwritten(_) => {}
+            | Conj::Unwritten(_)
+            | Conj::Quotient(_, _, _) => {}
         }
     }
 }

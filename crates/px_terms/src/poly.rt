@@ -56,6 +56,17 @@ impl Poly {
         })
     }
 
+    /// A word, as a number, as a polynomial. Takes no memory.
+    pub fn number(alloc: Global, c: u32) -> Poly
+        ensures { result ≡ record { constant = c; monomials = [] } }
+    {
+        Poly {
+            alloc,
+            constant: c,
+            monomials: Vec::new(alloc),
+        }
+    }
+
     /// A variable as a polynomial.
     pub fn var(alloc: Global, v: Var) -> Result<Poly, NoMemory>
         ensures { IfOk result (λ p. p ≡ record { constant = 0; monomials = record { coefficient = 1; vars = v.0 ∷ [] } ∷ [] }) }

@@ -5,8 +5,10 @@ ghost use Rattle.px_terms.specs.Variables.{variables_of, place_variables, mentio
 ghost use Rattle.px_terms.specs.Valuations.{valuation_of, number_of, numbers_of, IsWord, IsPlace, IsUnwritten};
 ghost use Rattle.px_terms.specs.Conjuncts.{HasWords, word_of, place_of, ArePlaces, IsTrueUnder};
 ghost use Rattle.px_terms.specs.Monomials.{term_of};
+ghost use Rattle.px_terms.specs.declared.conjuncts.Conj.TheVariants.{Quotient};
 
 use crate::monomial::Monomial;
+use crate::quotients::is_quotient;
 use crate::{Conj, Place, Poly, Value, Var};
 
 // The word of a value; none where it is none.
@@ -98,10 +100,30 @@ fn words_at(p: &Poly, q: &Poly, valuation: &[Value]) -> Option<(i32, i32)>
     Some((a.cast_signed(), b.cast_signed()))
 }
 
+// Whether a variable is the quotient of two polynomials.
+fn is_quotient_of(x: Var, p: &Poly, q: &Poly, valuation: &[Value]) -> bool
+    requires variable { x.0 < length valuation.now }
+    requires left { All (λ x. x < length valuation.now) (variables_of p.now) }
+    requires right { All (λ x. x < length valuation.now) (variables_of q.now) }
+    ensures { result ≡ true ↔ IsTrueUnder (valuation_of valuation.now) (Quotient x p.now q.now) }
+{
+    let Some(word) = number(read(x, valuation)) else {
+        return false;
+    };
+    let Some(m) = word_at(p, valuation) else {
+        return false;
+    };
+    let Some(n) = word_at(q, valuation) else {
+        return false;
+    };
+    is_quotient(word, m, n)
+}
+
 /// Whether the valuation, a value for each variable by its number, makes the conjunct true. Takes no memory.
 ///
 /// A conjunct on words or places is true where its variables have words, or null or blocks, and the
 /// relation holds; a condition on words of which a variable is unwritten is false, as is its contrary.
+/// Nothing is a quotient by 0.
 pub fn eval(conjunct: &Conj, valuation: &[Value]) -> bool
     requires { All (λ x. x < length valuation.now) (mentioned conjunct.now) }
     ensures { result ≡ true ↔ IsTrueUnder (valuation_of valuation.now) conjunct.now }
@@ -115,6 +137,7 @@ pub fn eval(conjunct: &Conj, valuation: &[Value]) -> bool
         Conj::OtherPlace(a, b) => compare_places(*a, *b, false, valuation),
         Conj::Written(x) => !is_unwritten(read(*x, valuation)),
         Conj::Unwritten(x) => is_unwritten(read(*x, valuation)),
+        Conj::Quotient(x, p, q) => is_quotient_of(*x, p, q, valuation),
     }
 }
 

@@ -52,3 +52,4 @@ conj_within v (J.SamePlace a b) = place_within v a && place_within v b
 conj_within v (J.OtherPlace a b) = place_within v a && place_within v b
 conj_within v (J.Written x) = nat_lt x.0 v
 conj_within v (J.Unwritten x) = nat_lt x.0 v
+conj_within v (J.Quotient x p q) = nat_lt x.0 v && (polynomial_within v p && polynomial_within v q)

@@ -1,4 +1,4 @@
-ghost use Rattle.std.specs.Prelude.{◌≡◌, nat_lt};
+ghost use Rattle.std.specs.Prelude.{◌≡◌, ◌&&◌, nat_lt};
 ghost use Rattle.std.specs.List.{list_all};
 ghost use Rattle.px_terms.specs.Monomials.{term_of};
 ghost use Rattle.px_wire.specs.TermRanges.{value_type_within, block_type_within, var_info_within, polynomial_within, place_within, content_within, conj_within};
@@ -69,6 +69,12 @@ fn is_polynomial_within(variables: usize, p: &Poly) -> bool
     are_monomials_within(variables, p.monomials())
 }
 
+fn are_polynomials_within(variables: usize, p: &Poly, q: &Poly) -> bool
+    ensures { result ≡ (polynomial_within variables p.now && polynomial_within variables q.now) }
+{
+    is_polynomial_within(variables, p) && is_polynomial_within(variables, q)
+}
+
 fn is_place_within(variables: usize, place: Place) -> bool
     ensures { result ≡ place_within variables place }
 {
@@ -94,13 +100,14 @@ fn is_conjunct_within(variables: usize, conjunct: &Conj) -> bool
 {
     match conjunct {
         Conj::Equal(p) | Conj::Unequal(p) => is_polynomial_within(variables, p),
-        Conj::Less(p, q) | Conj::AtMost(p, q) => {
-            is_polynomial_within(variables, p) && is_polynomial_within(variables, q)
-        }
+        Conj::Less(p, q) | Conj::AtMost(p, q) => are_polynomials_within(variables, p, q),
         Conj::SamePlace(a, b) | Conj::OtherPlace(a, b) => {
             is_place_within(variables, *a) && is_place_within(variables, *b)
         }
         Conj::Written(x) | Conj::Unwritten(x) => is_variable_within(variables, x.0),
+        Conj::Quotient(x, p, q) => {
+            is_variable_within(variables, x.0) && are_polynomials_within(variables, p, q)
+        }
     }
 }
 

@@ -92,6 +92,7 @@ pub fn conjunct_text(alloc: Global, conjunct: &Conj) -> Result<String> {
         Conj::OtherPlace(a, b) => of_places(alloc, "apart", *a, *b),
         Conj::Written(x) => of_variable(alloc, "written", *x),
         Conj::Unwritten(x) => of_variable(alloc, "unwritten", *x),
+        Conj::Quotient(x, p, q) => of_quotient(alloc, *x, p, q),
     }
 }
 
@@ -104,6 +105,12 @@ fn of_two(alloc: Global, word: &str, p: &Poly, q: &Poly) -> Result<String> {
     let first = polynomial_text(alloc, p)?;
     let second = polynomial_text(alloc, q)?;
     Ok(format!(in alloc; "{word} {first} {second}")?)
+}
+
+fn of_quotient(alloc: Global, x: Var, p: &Poly, q: &Poly) -> Result<String> {
+    let first = polynomial_text(alloc, p)?;
+    let second = polynomial_text(alloc, q)?;
+    Ok(format!(in alloc; "quotient {} {first} {second}", x.0)?)
 }
 
 fn of_places(alloc: Global, word: &str, a: Place, b: Place) -> Result<String> {

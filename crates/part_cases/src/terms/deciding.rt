@@ -34,11 +34,11 @@ fn plain_word(alloc: Global, vars: &[VarInfo], conjuncts: &[Conj]) -> Result<&'s
     Ok("false")
 }
 
-// The plain conjuncts of the cases: all but orders and sums with a coefficient of 2.
+// The plain conjuncts of the cases: all but orders, quotients and sums with a coefficient of 2.
 fn is_plain(conjunct: &Conj) -> bool {
     match conjunct {
         Conj::Equal(p) => p.monomials().iter().all(|m| m.coefficient() != 2),
-        Conj::Less(_, _) => false,
+        Conj::Less(_, _) | Conj::Quotient(_, _, _) => false,
         _ => true,
     }
 }
@@ -148,6 +148,9 @@ fn same_conjunct(a: &Conj, b: &Conj) -> bool {
         (Conj::Unequal(p), Conj::Unequal(q)) => same_sum(p, q),
         (Conj::Less(p, q), Conj::Less(r, s)) => same_sum(p, r) && same_sum(q, s),
         (Conj::AtMost(p, q), Conj::AtMost(r, s)) => same_sum(p, r) && same_sum(q, s),
+        (Conj::Quotient(x, p, q), Conj::Quotient(y, r, s)) => {
+            x.0 == y.0 && same_sum(p, r) && same_sum(q, s)
+        }
         _ => false,
     }
 }

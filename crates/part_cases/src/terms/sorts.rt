@@ -61,6 +61,7 @@ pub fn is_sorted(vars: &[VarInfo], conjunct: &Conj) -> bool
         Conj::OtherPlace(a, b) => is_pointer(vars, *a) && is_pointer(vars, *b),
         Conj::Written(x) => (x.0 as usize) < vars.len(),
         Conj::Unwritten(x) => (x.0 as usize) < vars.len(),
+        Conj::Quotient(x, p, q) => is_int(vars, x.0) && is_int_sum(vars, p) && is_int_sum(vars, q),
     }
 }
 

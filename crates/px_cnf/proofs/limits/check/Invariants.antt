@@ -1,12 +1,11 @@
 use Rattle.std.proofs.Common.{◌≡◌, ◌≤◌, ◌*◌, take}
 use Rattle.std.specs.Prelude.{All}
 use Rattle.std.specs.List.{sum_by}
-use Rattle.px_plain.specs.Ties.{IsOnWords}
-use Rattle.px_cnf.specs.Standing.{conjunct_degree}
+use Rattle.px_cnf.specs.Standing.{IsComparison, conjunct_degree}
 use Rattle.px_cnf.proofs.limits.check.Given as goal
 
 abbrev pub invariant-loop-i : goal.invariant-loop-i
-invariant-loop-i l = All IsOnWords (take l.i l.conjuncts)
+invariant-loop-i l = All IsComparison (take l.i l.conjuncts)
 
 abbrev pub invariant-loop-i-2 : goal.invariant-loop-i-2
 invariant-loop-i-2 l = record {
