@@ -129,8 +129,8 @@ declarator_first {may_miss = may_miss} (is_direct {ts2 = ts2} (is_nothing mm h e
 -- ---- what follows a declarator
 
 pub record After (may_miss : Bool) (d : DeclaratorTree) (rest : List Lexeme) : Type 0 where
-  pub no_identifier : front_if is_identifier rest ≡ None
-  pub no_star : front T.Star rest ≡ None
+  pub no_identifier : may_miss ≡ true → front_if is_identifier rest ≡ None
+  pub no_star : may_miss ≡ true → front T.Star rest ≡ None
   pub no_bracket : front T.OpenBracket rest ≡ None
   pub no_parenthesis : front T.OpenParenthesis rest ≡ None
   pub no_qualifier : may_miss ≡ true → ends_in_star d ≡ true → qualifier_at rest ≡ Ok (None, rest)
@@ -139,8 +139,8 @@ pub record After (may_miss : Bool) (d : DeclaratorTree) (rest : List Lexeme) : T
 pub after_first : (may_miss : Bool) (d : DeclaratorTree) (c : Lexeme) (rest : List Lexeme) → begins_declarator c.terminal ≡ false → (may_miss ≡ true → ends_in_star d ≡ true → qualifier_at (c ∷ rest) ≡ Ok (None, c ∷ rest)) →
     After may_miss d (c ∷ rest)
 after_first may_miss d c rest b f = record {
-  no_identifier = other (is_identifier c.terminal) refl;
-  no_star = not_front T.Star refl (same c.terminal T.Star) refl;
+  no_identifier = λ mm. other (is_identifier c.terminal) refl;
+  no_star = λ mm. not_front T.Star refl (same c.terminal T.Star) refl;
   no_bracket = not_front T.OpenBracket refl (same c.terminal T.OpenBracket) refl;
   no_parenthesis = not_front T.OpenParenthesis refl (same c.terminal T.OpenParenthesis) refl;
   no_qualifier = f;
@@ -159,7 +159,7 @@ pub after_token : (may_miss : Bool) (d : DeclaratorTree) (k : Terminal) (c : Lex
 after_token may_miss d k c rest kc b h = after_first may_miss d c rest (ap begins_declarator kc ∙ b) (λ mm e. no_qualifier_here c rest (ap has_role kc ∙ h))
 
 pub after_nothing : (may_miss : Bool) (d : DeclaratorTree) → After may_miss d []
-after_nothing may_miss d = record { no_identifier = refl; no_star = refl; no_bracket = refl; no_parenthesis = refl; no_qualifier = λ mm e. no_qualifier_end }
+after_nothing may_miss d = record { no_identifier = λ mm. refl; no_star = λ mm. refl; no_bracket = refl; no_parenthesis = refl; no_qualifier = λ mm e. no_qualifier_end }
 
 -- ---- lists of parameters
 
@@ -454,7 +454,7 @@ module _ (types : Types) (may_miss : Bool) {I : Gram DeclaratorTree} {i : Reader
     where
       by : {d : DeclaratorTree} → Behind types d1 us d → or_else (front_if is_identifier (us ++ rest)) (λ t. done (a_name t.0.text t.0.site) t.1)
           (or_else (front T.OpenParenthesis (us ++ rest)) (λ o. if may_miss && opens_parameters types o.1 then done no_name (us ++ rest) else inner_at i o.0 o.1) (missing may_miss (us ++ rest))) ≡ Ok (no_name, us ++ rest)
-      by (nothing_behind g e1) = rw (g, f.no_identifier, f.no_parenthesis, mm) refl
+      by (nothing_behind g e1) = rw (g, f.no_identifier mm, f.no_parenthesis, mm) refl
       by (an_array {o = o} {ts2 = ts2} b m1 g) =
           let x = between_first b in
           let all : List Lexeme = (x.0 ++ ts2) ++ rest in
@@ -507,7 +507,7 @@ module _ (types : Types) (may_miss : Bool) {I : Gram DeclaratorTree} {i : Reader
   no_star_first : {ts us : List Lexeme} {d d1 : DeclaratorTree} (rest : List Lexeme) → Core types may_miss I ts d1 → Behind types d1 us d → After may_miss d rest → front T.Star (ts ++ (us ++ rest)) ≡ None
   no_star_first {us = us} rest (is_name {t = t} k h e) m f = rw h (identifier_no_star t (us ++ rest) k)
   no_star_first rest (is_inner c ko g n kc h e) m f = rw (h, ko) refl
-  no_star_first rest (is_nothing mm h e) (nothing_behind g e1) f = rw (h, g) f.no_star
+  no_star_first rest (is_nothing mm h e) (nothing_behind g e1) f = rw (h, g) (f.no_star mm)
   no_star_first rest (is_nothing mm h e) (an_array {o = o} {ts2 = ts2} b m1 g) f = let x = between_first b in rw (h, g, x.2) (front_other T.OpenBracket T.Star o ((x.0 ++ ts2) ++ rest) x.1 refl)
   no_star_first rest (is_nothing mm h e) (a_function {o = o} {ts2 = ts2} b c m1 g) f = let x = between_first b in rw (h, g, x.2) (front_other T.OpenParenthesis T.Star o ((x.0 ++ ts2) ++ rest) x.1 refl)
 

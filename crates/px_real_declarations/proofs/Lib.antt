@@ -5,4 +5,7 @@ pub mod DeclaratorExact
 pub mod DeclarationExact
 pub mod ParameterExact
 pub mod OneReading
+pub mod SeparatedExact
+pub mod MemberExact
+pub mod HeldExact
 pub mod Worked

@@ -238,13 +238,19 @@ phrase_of a h = by ((phrase_exact T.Semicolon refl).sound a a [] h).is
 pub data IsPart : List Lexeme → List Lexeme → Type 0 where
   is_part_of : {ts a : List Lexeme} → Part ts → a ≡ ts → IsPart ts a
 
--- nothing follows, or a comma
+-- nothing follows, or a semicolon
+pub data Over : List Lexeme → Type 0 where
+  at_end : {ts : List Lexeme} → ts ≡ [] → Over ts
+  at_semicolon : {c : Lexeme} {us ts : List Lexeme} → c.terminal ≡ T.Semicolon → ts ≡ c ∷ us → Over ts
+
+-- or a comma
 pub data Ended : List Lexeme → Type 0 where
-  at_end : {ts : List Lexeme} → ts ≡ [] → Ended ts
+  at_over : {ts : List Lexeme} → Over ts → Ended ts
   at_comma : {c : Lexeme} {us ts : List Lexeme} → c.terminal ≡ T.Comma → ts ≡ c ∷ us → Ended ts
 
 part_ends : {rest : List Lexeme} → Ended rest → part_from 0 [] rest ≡ done [] rest
-part_ends (at_end e) = rw e refl
+part_ends (at_over (at_end e)) = rw e refl
+part_ends (at_over (at_semicolon kc e)) = rw (e, kc) refl
 part_ends (at_comma kc e) = rw (e, kc) refl
 
 part_there : (ts a rest : List Lexeme) → IsPart ts a → Ended rest → part_at (ts ++ rest) ≡ Ok (a, rest)

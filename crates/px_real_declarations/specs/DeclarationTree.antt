@@ -74,3 +74,9 @@ pub data ParametersTree : Type 0 where
   parameters : List DeclarationTree → Bool → ParametersTree
   -- names alone, as of an old-style definition
   identifiers : List (List ℕ) → ParametersTree
+
+-- what stands before a function's body: in an old-style definition declarations of its parameters too
+pub record HeadTree : Type 0 where
+  pub specifiers : List SpecifierTree
+  pub declarator : DeclaratorTree
+  pub declarations : List DeclarationTree

@@ -9,7 +9,7 @@ use Rattle.px_real_declarations.specs.declared.role.Role.{Role}
 use Rattle.px_real_declarations.specs.declared.role.Role.TheVariants as R
 use Rattle.px_real_declarations.specs.Roles.{role, role_of, same_role, is_plain, is_basic, takes_group, takes_tag, is_qualifier, begins_keyword}
 use Rattle.px_real_declarations.specs.Parts.{Part}
-use Rattle.px_real_declarations.specs.DeclarationTree.{GroupTree, SpecifierTree, keyword, type_name, group, tagged, any_says, DeclaratorTree, no_name, a_name, inner, pointer, array, function, DeclaredTree, DeclarationTree, declaration, assertion, EnumeratorTree, ParametersTree, parameters, identifiers}
+use Rattle.px_real_declarations.specs.DeclarationTree.{GroupTree, SpecifierTree, keyword, type_name, group, tagged, any_says, DeclaratorTree, no_name, a_name, inner, pointer, array, function, DeclaredTree, DeclarationTree, declaration, assertion, EnumeratorTree, ParametersTree, parameters, identifiers, HeadTree}
 
 -- the words that are names of types where a declaration begins
 abbrev pub Types : Type 0
@@ -197,12 +197,16 @@ pub data Enumerators : List Lexeme → List EnumeratorTree → Type 0 where
   are_enumerators : {ts : List Lexeme} {es : List EnumeratorTree} → Listed IsEnumerator ts es → Enumerators ts es
   and_a_comma : (c : Lexeme) {ts1 ts : List Lexeme} {e : EnumeratorTree} {es1 es : List EnumeratorTree} → Listed IsEnumerator ts1 (e ∷ es1) → c.terminal ≡ T.Comma → ts ≡ ts1 ++ c ∷ [] → es ≡ e ∷ es1 → Enumerators ts es
 
+-- declarations with a semicolon behind each, and semicolons alone or not
+pub data Lines (alone : Bool) (part : Gram DeclarationTree) : List Lexeme → List DeclarationTree → Type 0 where
+  no_line : {ts : List Lexeme} {ds : List DeclarationTree} → ts ≡ [] → ds ≡ [] → Lines alone part ts ds
+  an_empty_line : {t : Lexeme} {ts1 ts : List Lexeme} {ds : List DeclarationTree} → alone ≡ true → t.terminal ≡ T.Semicolon → Lines alone part ts1 ds → ts ≡ t ∷ ts1 → Lines alone part ts ds
+  a_line : (e : Lexeme) {ts1 ts2 ts : List Lexeme} {d : DeclarationTree} {ds1 ds : List DeclarationTree} →
+      part ts1 d → e.terminal ≡ T.Semicolon → Lines alone part ts2 ds1 → ts ≡ ts1 ++ e ∷ ts2 → ds ≡ d ∷ ds1 → Lines alone part ts ds
+
 -- what stands between the braces of a struct or union (6.7.2.1): the names of types are those where it begins
-pub data Members (types : Types) (n : ℕ) : List Lexeme → List DeclarationTree → Type 0 where
-  no_member : {ts : List Lexeme} {ds : List DeclarationTree} → ts ≡ [] → ds ≡ [] → Members types n ts ds
-  an_empty_one : {t : Lexeme} {ts1 ts : List Lexeme} {ds : List DeclarationTree} → t.terminal ≡ T.Semicolon → Members types n ts1 ds → ts ≡ t ∷ ts1 → Members types n ts ds
-  a_member : (e : Lexeme) {ts1 ts2 ts : List Lexeme} {d : DeclarationTree} {ds1 ds : List DeclarationTree} →
-      IsMemberDeclaration types n ts1 d → e.terminal ≡ T.Semicolon → Members types n ts2 ds1 → ts ≡ ts1 ++ e ∷ ts2 → ds ≡ d ∷ ds1 → Members types n ts ds
+abbrev pub Members : Types → ℕ → Gram (List DeclarationTree)
+Members types n = Lines true (IsMemberDeclaration types n)
 
 -- (, ...)?
 pub data Variadic : List Lexeme → Bool → Type 0 where
@@ -219,3 +223,11 @@ pub data Parameters (types : Types) (n : ℕ) : List Lexeme → ParametersTree �
   are_parameters : {ts1 ts2 ts : List Lexeme} {d : DeclarationTree} {ds : List DeclarationTree} {b : Bool} {p : ParametersTree} →
       Listed (IsParameter types n) ts1 (d ∷ ds) → Variadic ts2 b → ts ≡ ts1 ++ ts2 → p ≡ parameters (d ∷ ds) b → Parameters types n ts p
   are_names : {ts : List Lexeme} {w : List ℕ} {ws : List (List ℕ)} {p : ParametersTree} → Listed (IsOther types) ts (w ∷ ws) → p ≡ identifiers (w ∷ ws) → Parameters types n ts p
+
+-- ---- functions
+
+-- what stands before a function's body (6.9.1): specifiers, a declarator, and in an old-style definition declarations of its parameters
+pub data IsHead (types : Types) (n : ℕ) : List Lexeme → HeadTree → Type 0 where
+  is_head : {ts1 : List Lexeme} (ts2 : List Lexeme) {ts3 ts : List Lexeme} {s : SpecifierTree} {ss : List SpecifierTree} {d : DeclaratorTree} {ds : List DeclarationTree} {h : HeadTree} →
+      Specifiers types false ts1 (s ∷ ss) → EndBefore types (s ∷ ss) (ts2 ++ ts3) → IsDeclarator types false n ts2 d → Lines false (IsDeclaration types n) ts3 ds → ts ≡ ts1 ++ (ts2 ++ ts3) →
+      h ≡ record { specifiers = s ∷ ss; declarator = d; declarations = ds } → IsHead types n ts h

@@ -4,5 +4,6 @@ pub mod DeclarationTree
 pub mod Grammar
 pub mod Names
 pub mod Reading
+pub mod HeldReading
 pub mod Laws
 pub mod WorkedDeclarations

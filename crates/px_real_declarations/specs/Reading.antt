@@ -156,10 +156,14 @@ unfoldable pub more_declared : ℕ → Reader DeclaredTree → Reader (List Decl
 more_declared zero item ts = Ok ([], ts)
 more_declared (suc n) item ts = or_else (front T.Comma ts) (λ c. item c.1 >>= λ x. more_declared n item x.1 >>= λ y. Ok (x.0 ∷ y.0, y.1)) (Ok ([], ts))
 
+-- whether what is listed is over: nothing follows, or a semicolon
+abbrev pub is_over : List Lexeme → Bool
+is_over [] = true
+is_over (t ∷ ts) = same t.terminal T.Semicolon
+
 -- all that is declared, or nothing
 abbrev pub listed_at : Reader DeclaredTree → Reader (List DeclaredTree)
-listed_at item [] = Ok ([], [])
-listed_at item (t ∷ ts) = item (t ∷ ts) >>= λ x. more_declared (length x.1) item x.1 >>= λ y. Ok (x.0 ∷ y.0, y.1)
+listed_at item ts = if is_over ts then Ok ([], ts) else (item ts >>= λ x. more_declared (length x.1) item x.1 >>= λ y. Ok (x.0 ∷ y.0, y.1))
 
 -- specifiers, of which there is one at least
 abbrev pub some_specifiers : List SpecifierTree → List Lexeme → Read (List SpecifierTree)

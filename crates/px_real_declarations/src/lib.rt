@@ -3,8 +3,10 @@
 //! enumerators, initialisers and arguments of attributes are held as their tokens.
 #![tactic(auto)]
 
+mod ending;
 mod laws;
 mod role;
 
+pub use ending::Ending;
 pub use laws::{one_declaration, one_member, one_parameter, worked_declarations};
 pub use role::Role;

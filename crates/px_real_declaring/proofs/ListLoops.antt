@@ -1,5 +1,5 @@
 -- What the loop over all that is declared keeps, turn by turn.
-use Rattle.std.proofs.Common.{◌≡◌, ℕ, suc, ◌-◌, ◌+◌, ◌<◌, List, [], ◌∷◌, ◌++◌, length, Some, None, Ok, refl, sym, ap, ◌∙◌, arith}
+use Rattle.std.proofs.Common.{◌≡◌, ℕ, suc, true, false, ◌-◌, ◌+◌, ◌<◌, List, [], ◌∷◌, ◌++◌, length, Some, None, Ok, refl, sym, ap, ◌∙◌, arith}
 use Rattle.px_real_expressions.specs.declared.terminal.Terminal.TheVariants as T
 use Rattle.px_real_expressions.specs.Lexemes.{Lexeme, front}
 use Rattle.px_real_expressions.specs.Stops.{Read, ◌>>=◌}
@@ -9,7 +9,7 @@ use Rattle.px_real_symbols.specs.Answers.{IsFaultOf}
 use Rattle.px_real_symbols.proofs.AnswerLemmas.{passes_on}
 use Rattle.px_real_blocks.proofs.Loops.{after_all, after_one, after_last}
 use Rattle.px_real_declarations.specs.DeclarationTree.{DeclaredTree}
-use Rattle.px_real_declarations.specs.Reading.{more_declared, listed_at}
+use Rattle.px_real_declarations.specs.Reading.{more_declared, is_over, listed_at}
 use Rattle.px_real_declaring.specs.Items.{with_more}
 
 pub more_first : (item : Reader DeclaredTree) (x : DeclaredTree) (n : ℕ) (ts : List Lexeme) → n ≡ length ts → after_all (x ∷ []) (more_declared n item ts) ≡ with_more item x ts
@@ -41,16 +41,15 @@ pub more_full : (n : ℕ) (item : Reader DeclaredTree) (before : List DeclaredTr
 unfolding more_declared
 more_full n item before rest total h so_far = sym so_far ∙ rw h (after_last before rest)
 
--- the first of them, where some token is there
-pub listed_is : (item : Reader DeclaredTree) (ts : List Lexeme) → 0 < length ts → listed_at item ts ≡ (item ts >>= λ x. with_more item x.0 x.1)
-listed_is item [] lt = absurd (omega arith)
-listed_is item (t ∷ ts) lt = refl
+-- the first of them, where not all is over
+pub listed_is : (item : Reader DeclaredTree) (ts : List Lexeme) → false ≡ is_over ts → listed_at item ts ≡ (item ts >>= λ x. with_more item x.0 x.1)
+listed_is item ts h = rw (← h) refl
 
-pub nothing_listed : (item : Reader DeclaredTree) (ts : List Lexeme) → ts ≡ [] → listed_at item ts ≡ Ok ([], ts)
-nothing_listed item ts h = rw h refl
+pub nothing_listed : (item : Reader DeclaredTree) (ts : List Lexeme) → true ≡ is_over ts → listed_at item ts ≡ Ok ([], ts)
+nothing_listed item ts h = rw (← h) refl
 
-pub listed_err : (e : Fault) (all : List Lexeme) (item : Reader DeclaredTree) (ts : List Lexeme) → 0 < length ts → IsFaultOf all e (item ts) → IsFaultOf all e (listed_at item ts)
-listed_err e all item ts lt f = passes_on e all (item ts) (listed_at item ts) (λ st g. listed_is item ts lt ∙ rw g refl) f
+pub listed_err : (e : Fault) (all : List Lexeme) (item : Reader DeclaredTree) (ts : List Lexeme) → false ≡ is_over ts → IsFaultOf all e (item ts) → IsFaultOf all e (listed_at item ts)
+listed_err e all item ts h f = passes_on e all (item ts) (listed_at item ts) (λ st g. listed_is item ts h ∙ rw g refl) f
 
-pub listed_so : (item : Reader DeclaredTree) (ts us : List Lexeme) (x : DeclaredTree) → 0 < length ts → item ts ≡ Ok (x, us) → listed_at item ts ≡ with_more item x us
-listed_so item ts us x lt g = listed_is item ts lt ∙ rw g refl
+pub listed_so : (item : Reader DeclaredTree) (ts us : List Lexeme) (x : DeclaredTree) → false ≡ is_over ts → item ts ≡ Ok (x, us) → listed_at item ts ≡ with_more item x us
+listed_so item ts us x h g = listed_is item ts h ∙ rw g refl

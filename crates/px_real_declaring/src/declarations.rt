@@ -2,7 +2,7 @@ ghost use Rattle.std.specs.Prelude.{◌≡◌, drop, map, option_map, true};
 ghost use Rattle.px_real_symbols.specs.Answers.{Gives};
 ghost use Rattle.px_real_symbols.specs.Symbols.{seen, held_in};
 ghost use Rattle.px_real_expressions.specs.declared.terminal.Terminal.TheVariants.{Equal};
-ghost use Rattle.px_real_declarations.specs.Reading.{value_at, declared_at, member_at, listed_at, some_specifiers, declaration_by, parameter_at};
+ghost use Rattle.px_real_declarations.specs.Reading.{value_at, declared_at, member_at, is_over, listed_at, some_specifiers, declaration_by, parameter_at};
 ghost use Rattle.px_real_declaring.specs.Trees.{specifier_tree, declared_tree, declaration_tree};
 ghost use Rattle.px_real_declaring.specs.Items.{nesting_limit, item_at, with_more};
 
@@ -15,16 +15,16 @@ use px_real_declarations::Role;
 use px_real_expressions::Terminal;
 use px_real_symbols::fault::Fault;
 use px_real_symbols::fronts::front;
-use px_real_symbols::symbol::{Tokens, left};
+use px_real_symbols::symbol::{Tokens, first, left};
 use px_real_symbols::{Span, TypeNames};
 use std::alloc::Global;
 
-// How many parentheses and stars may stand within one another in a declarator.
-const NESTING_LIMIT: u32 = 200;
+/// How many parentheses and stars may stand within one another in a declarator.
+pub const NESTING_LIMIT: u32 = 200;
 
-// What stands behind a `=` or a `:` at this number, if one stands there, and the number of the token after it.
+/// What stands behind a `=` or a `:` at this number, if one stands there, and the number of the token after it.
 #[tactic(auto, unfolding(px_real_declarations::specs::Reading::value_at))]
-fn value(
+pub fn value(
     alloc: Global,
     mark: Terminal,
     on: Tokens,
@@ -135,6 +135,16 @@ fn more<T: TypeNames>(
     Ok((all, at))
 }
 
+// Whether nothing more is listed at this number: nothing follows, or a semicolon.
+fn is_over(on: Tokens, at: usize) -> bool
+    ensures { result ≡ is_over (drop at (seen on.entry)) }
+{
+    match first(on, at) {
+        Some((symbol, _)) => symbol.terminal == Terminal::Semicolon,
+        None => true,
+    }
+}
+
 // All that is declared from this number on, with commas between, and the number of the token after.
 fn listed<T: TypeNames>(
     alloc: Global,
@@ -145,7 +155,7 @@ fn listed<T: TypeNames>(
 ) -> Result<(Vec<Declared>, usize), Fault>
     ensures { Gives (seen on.entry) (λ x. (map (declared_tree (seen on.entry)) x.0.items, drop x.1 (seen on.entry))) result (listed_at (item_at (T.named types.now) members) (drop start (seen on.entry))) }
 {
-    if start >= on.symbols.len() {
+    if is_over(on, start) {
         let nothing = Vec::new(alloc);
         return Ok((nothing, start));
     }
@@ -153,8 +163,8 @@ fn listed<T: TypeNames>(
     more(alloc, on, types, members, first, after)
 }
 
-// These specifiers, where there is one at least; this number stands behind them.
-fn non_empty(on: Tokens, specifiers: Vec<Specifier>, at: usize) -> Result<Vec<Specifier>, Fault>
+/// These specifiers, where there is one at least; this number stands behind them.
+pub fn non_empty(on: Tokens, specifiers: Vec<Specifier>, at: usize) -> Result<Vec<Specifier>, Fault>
     ensures { Gives (seen on.entry) (λ ss. (map (specifier_tree (seen on.entry)) ss.items, drop at (seen on.entry))) result (some_specifiers (map (specifier_tree (seen on.entry)) specifiers.items) (drop at (seen on.entry))) }
 {
     if specifiers.is_empty() {
@@ -163,7 +173,7 @@ fn non_empty(on: Tokens, specifiers: Vec<Specifier>, at: usize) -> Result<Vec<Sp
     Ok(specifiers)
 }
 
-// The declaration without its semicolon that stands at this number, of members or another, and the number of the token after it.
+/// The declaration without its semicolon that stands at this number, of members or another, and the number of the token after it.
 #[tactic(auto, unfolding(px_real_declarations::specs::Reading::declaration_by))]
 pub fn declaration<T: TypeNames>(
     alloc: Global,
@@ -190,7 +200,7 @@ pub fn declaration<T: TypeNames>(
     ))
 }
 
-// The parameter that stands at this number, or with no name the name of a type, and the number of the token after it.
+/// The parameter that stands at this number, or with no name the name of a type, and the number of the token after it.
 #[tactic(auto, unfolding(px_real_declarations::specs::Reading::parameter_at))]
 pub fn parameter<T: TypeNames>(
     alloc: Global,

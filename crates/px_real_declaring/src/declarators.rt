@@ -89,8 +89,8 @@ fn opens_parameters<T: TypeNames>(on: Tokens, types: &T, at: usize) -> bool
     opens
 }
 
-// The declarator at this number, where so many parentheses and stars may stand within one another, and its name may be missing or not;
-// and the number of the token after it.
+/// The declarator at this number, where so many parentheses and stars may stand within one another, and its name may be missing or not;
+/// and the number of the token after it.
 #[cycle(declarator)]
 pub fn declarator<T: TypeNames>(
     alloc: Global,

@@ -17,7 +17,7 @@ use px_real_symbols::held::held_group;
 use px_real_symbols::symbol::{Symbol, Tokens, first, left, name};
 use std::alloc::Global;
 
-// The keyword at this number, where it has this role, and the number of the token after it.
+/// The keyword at this number, where it has this role, and the number of the token after it.
 pub fn role_front(wanted: Role, on: Tokens, at: usize) -> Option<(Symbol, usize)>
     ensures { option_map (λ x. (see on.entry.source.now x.0, drop x.1 (seen on.entry))) result ≡ role_front (same_role wanted) (drop at (seen on.entry)) }
 {
@@ -28,7 +28,7 @@ pub fn role_front(wanted: Role, on: Tokens, at: usize) -> Option<(Symbol, usize)
     Some((symbol, next))
 }
 
-// A keyword and what stands in the parentheses at this number, and the number of the token after them.
+/// A keyword and what stands in the parentheses at this number, and the number of the token after them.
 #[tactic(auto, unfolding(px_real_declarations::specs::Reading::group_behind))]
 pub fn group_behind(
     alloc: Global,
@@ -47,7 +47,7 @@ pub fn group_behind(
     Ok((Group { word, site, held }, after))
 }
 
-// A keyword of this role with its parentheses, if one stands at this number.
+/// A keyword of this role with its parentheses, if one stands at this number.
 #[tactic(auto, unfolding(px_real_declarations::specs::Reading::group_at))]
 pub fn group(
     alloc: Global,
@@ -81,7 +81,7 @@ fn many(alloc: Global, on: Tokens, start: usize) -> Result<(Vec<Group>, usize), 
     Ok((all, at))
 }
 
-// The same, as the grammar's reader of attributes.
+/// The same, as the grammar's reader of attributes.
 #[tactic(auto, unfolding(px_real_declarations::specs::Reading::attributes_at))]
 pub fn attributes(alloc: Global, on: Tokens, start: usize) -> Result<(Vec<Group>, usize), Fault>
     ensures { Gives (seen on.entry) (λ x. (map (group_tree (seen on.entry)) x.0.items, drop x.1 (seen on.entry))) result (attributes_at (drop start (seen on.entry))) }
@@ -89,7 +89,7 @@ pub fn attributes(alloc: Global, on: Tokens, start: usize) -> Result<(Vec<Group>
     many(alloc, on, start)
 }
 
-// What stands between braces at this number, if they stand there, and the number of the token after them.
+/// What stands between braces at this number, if they stand there, and the number of the token after them.
 #[tactic(auto, unfolding(px_real_declarations::specs::Reading::braces_at))]
 pub fn braces(alloc: Global, on: Tokens, at: usize) -> Result<(Option<Span>, usize), Fault>
     ensures { Gives (seen on.entry) (λ x. (option_map (held_in (seen on.entry)) x.0, drop x.1 (seen on.entry))) result (braces_at (drop at (seen on.entry))) }

@@ -2,12 +2,12 @@
 //! px_real_declarations says of exactly these tokens, where these words are names of types.
 #![tactic(auto)]
 
-mod declarations;
-mod declarators;
-mod groups;
-mod reading;
-mod roles;
-mod specifiers;
+pub mod declarations;
+pub mod declarators;
+pub mod groups;
+pub mod reading;
+pub mod roles;
+pub mod specifiers;
 mod tree;
 
 pub use reading::{DeclarationFault, declaration_of, member_of, parameter_of};

@@ -1,14 +1,13 @@
-ghost use Rattle.std.specs.Prelude.{◌≡◌, ℕ, [], false, true, drop, IfOk, IsErrOf};
+ghost use Rattle.std.specs.Prelude.{◌≡◌, [], false, true, drop};
 ghost use Rattle.px_real_symbols.specs.Answers.{Gives};
 ghost use Rattle.px_real_symbols.specs.Symbols.{seen, lexemes};
 ghost use Rattle.px_real_blocks.specs.Parts.{no_types};
-ghost use Rattle.px_real_declarations.specs.DeclarationTree.{DeclarationTree};
 ghost use Rattle.px_real_declarations.specs.Grammar.{IsParameter};
 ghost use Rattle.px_real_declarations.specs.Reading.{declaration_by, parameter_at};
 ghost use Rattle.px_real_declaring.specs.Items.{nesting_limit, item_at};
-ghost use Rattle.px_real_declaring.specs.Whole.{nothing_left, whole_by, IsOneOf};
+ghost use Rattle.px_real_declaring.specs.Whole.{nothing_left, whole_by, IsOneOf, SameKind, IsRead};
 ghost use Rattle.px_real_declaring.specs.Trees.{declaration_tree};
-ghost use Rattle.px_real_declaring.specs.declared.reading.DeclarationFault.TheVariants.{NotADeclaration, Deep, NoMemory};
+ghost use Rattle.px_real_declaring.specs.declared.reading.DeclarationFault.TheVariants.{NoMemory};
 
 use crate::declarations::{declaration, parameter};
 use crate::tree::Declaration;
@@ -42,8 +41,8 @@ impl From<OutOfMemory> for DeclarationFault {
     }
 }
 
-// No word is the name of a type.
-struct NoTypes;
+/// No word is the name of a type.
+pub struct NoTypes;
 
 impl TypeNames for NoTypes {
     ghost named = { λ _ word. false };
@@ -53,14 +52,25 @@ impl TypeNames for NoTypes {
     }
 }
 
-// This tree, where nothing is left.
-fn nothing_left(on: Tokens, tree: Declaration, at: usize) -> Result<Declaration, Fault>
-    ensures { Gives (seen on.entry) (λ d. (declaration_tree (seen on.entry) d, [])) result (nothing_left (declaration_tree (seen on.entry) tree) (drop at (seen on.entry))) }
+/// Whether nothing is left at this number; else it is a fault.
+pub fn all_read(on: Tokens, at: usize) -> Result<(), Fault>
+    ensures { Gives (seen on.entry) (λ x. (x, [])) result (nothing_left tt (drop at (seen on.entry))) }
 {
     if at < on.symbols.len() {
         return Err(Fault::Wrong(at));
     }
-    Ok(tree)
+    Ok(())
+}
+
+/// A fault as callers see it.
+pub fn as_fault(fault: Fault, on: Tokens) -> DeclarationFault
+    ensures { SameKind fault result }
+{
+    match fault {
+        Fault::Wrong(at) => DeclarationFault::NotADeclaration(at.min(on.symbols.len())),
+        Fault::Deep(at) => DeclarationFault::Deep(at.min(on.symbols.len())),
+        Fault::NoMemory => DeclarationFault::NoMemory,
+    }
 }
 
 // The declaration that all is, of members or another.
@@ -74,7 +84,8 @@ fn whole<T: TypeNames>(
     ensures { Gives (seen on.entry) (λ d. (declaration_tree (seen on.entry) d, [])) result (whole_by (declaration_by (T.named types.now) (item_at (T.named types.now) members)) (seen on.entry)) }
 {
     let (tree, next) = declaration(alloc, on, types, members, 0)?;
-    nothing_left(on, tree, next)
+    all_read(on, next)?;
+    Ok(tree)
 }
 
 // The parameter that all is.
@@ -83,45 +94,36 @@ fn whole_parameter<T: TypeNames>(alloc: Global, on: Tokens, types: &T) -> Result
     ensures { Gives (seen on.entry) (λ d. (declaration_tree (seen on.entry) d, [])) result (whole_by (parameter_at (T.named types.now) nesting_limit) (seen on.entry)) }
 {
     let (tree, next) = parameter(alloc, on, types, 0)?;
-    nothing_left(on, tree, next)
+    all_read(on, next)?;
+    Ok(tree)
 }
 
 // The declaration that all is, with faults as callers see them.
-#[tactic(auto, using(crate::proofs::WholeLemmas::declaration_found))]
 fn read<T: TypeNames>(
     alloc: Global,
     on: Tokens,
     types: &T,
     members: bool,
 ) -> Result<Declaration, DeclarationFault>
-    ensures found { IfOk result (λ d. IsOneOf (T.named types.now) members (seen on.entry) (declaration_tree (seen on.entry) d)) }
-    ensures wrong { (at : ℕ) → IsErrOf result (NotADeclaration at) → (d : DeclarationTree) → IsOneOf (T.named types.now) members (seen on.entry) d → ⊥ }
-    ensures deep { (at : ℕ) → IsErrOf result (Deep at) → (d : DeclarationTree) → IsOneOf (T.named types.now) members (seen on.entry) d → ⊥ }
+    ensures { IsRead (IsOneOf (T.named types.now) members (seen on.entry)) (declaration_tree (seen on.entry)) result }
 {
     match whole(alloc, on, types, members) {
         Ok(tree) => Ok(tree),
-        Err(Fault::Wrong(at)) => Err(DeclarationFault::NotADeclaration(at.min(on.symbols.len()))),
-        Err(Fault::Deep(at)) => Err(DeclarationFault::Deep(at.min(on.symbols.len()))),
-        Err(Fault::NoMemory) => Err(DeclarationFault::NoMemory),
+        Err(fault) => Err(as_fault(fault, on)),
     }
 }
 
 // The parameter that all is, with faults as callers see them.
-#[tactic(auto, using(crate::proofs::WholeLemmas::parameter_found))]
 fn read_parameter<T: TypeNames>(
     alloc: Global,
     on: Tokens,
     types: &T,
 ) -> Result<Declaration, DeclarationFault>
-    ensures found { IfOk result (λ d. IsParameter (T.named types.now) nesting_limit (seen on.entry) (declaration_tree (seen on.entry) d)) }
-    ensures wrong { (at : ℕ) → IsErrOf result (NotADeclaration at) → (d : DeclarationTree) → IsParameter (T.named types.now) nesting_limit (seen on.entry) d → ⊥ }
-    ensures deep { (at : ℕ) → IsErrOf result (Deep at) → (d : DeclarationTree) → IsParameter (T.named types.now) nesting_limit (seen on.entry) d → ⊥ }
+    ensures { IsRead (IsParameter (T.named types.now) nesting_limit (seen on.entry)) (declaration_tree (seen on.entry)) result }
 {
     match whole_parameter(alloc, on, types) {
         Ok(tree) => Ok(tree),
-        Err(Fault::Wrong(at)) => Err(DeclarationFault::NotADeclaration(at.min(on.symbols.len()))),
-        Err(Fault::Deep(at)) => Err(DeclarationFault::Deep(at.min(on.symbols.len()))),
-        Err(Fault::NoMemory) => Err(DeclarationFault::NoMemory),
+        Err(fault) => Err(as_fault(fault, on)),
     }
 }
 
@@ -133,11 +135,9 @@ pub fn declaration_of<T: TypeNames>(
     tokens: &[Token],
     types: &T,
 ) -> Result<Declaration, DeclarationFault>
-    // What is given is the declaration of the grammar.
-    ensures found { IfOk result (λ d. IsOneOf (T.named types.now) false (lexemes no_types source.now tokens.now) (declaration_tree (lexemes no_types source.now tokens.now) d)) }
-    // Where they are said to be none, or to nest too deep, they are none that nests no deeper than declarators are read.
-    ensures wrong { (at : ℕ) → IsErrOf result (NotADeclaration at) → (d : DeclarationTree) → IsOneOf (T.named types.now) false (lexemes no_types source.now tokens.now) d → ⊥ }
-    ensures deep { (at : ℕ) → IsErrOf result (Deep at) → (d : DeclarationTree) → IsOneOf (T.named types.now) false (lexemes no_types source.now tokens.now) d → ⊥ }
+    // What is given is the declaration of the grammar; where they are said to be none, or to nest too deep, they are none that nests
+    // no deeper than declarators are read.
+    ensures { IsRead (IsOneOf (T.named types.now) false (lexemes no_types source.now tokens.now)) (declaration_tree (lexemes no_types source.now tokens.now)) result }
 {
     let symbols = symbols(alloc, source, &NoTypes, tokens)?;
     let on = Tokens {
@@ -154,9 +154,7 @@ pub fn member_of<T: TypeNames>(
     tokens: &[Token],
     types: &T,
 ) -> Result<Declaration, DeclarationFault>
-    ensures found { IfOk result (λ d. IsOneOf (T.named types.now) true (lexemes no_types source.now tokens.now) (declaration_tree (lexemes no_types source.now tokens.now) d)) }
-    ensures wrong { (at : ℕ) → IsErrOf result (NotADeclaration at) → (d : DeclarationTree) → IsOneOf (T.named types.now) true (lexemes no_types source.now tokens.now) d → ⊥ }
-    ensures deep { (at : ℕ) → IsErrOf result (Deep at) → (d : DeclarationTree) → IsOneOf (T.named types.now) true (lexemes no_types source.now tokens.now) d → ⊥ }
+    ensures { IsRead (IsOneOf (T.named types.now) true (lexemes no_types source.now tokens.now)) (declaration_tree (lexemes no_types source.now tokens.now)) result }
 {
     let symbols = symbols(alloc, source, &NoTypes, tokens)?;
     let on = Tokens {
@@ -173,9 +171,7 @@ pub fn parameter_of<T: TypeNames>(
     tokens: &[Token],
     types: &T,
 ) -> Result<Declaration, DeclarationFault>
-    ensures found { IfOk result (λ d. IsParameter (T.named types.now) nesting_limit (lexemes no_types source.now tokens.now) (declaration_tree (lexemes no_types source.now tokens.now) d)) }
-    ensures wrong { (at : ℕ) → IsErrOf result (NotADeclaration at) → (d : DeclarationTree) → IsParameter (T.named types.now) nesting_limit (lexemes no_types source.now tokens.now) d → ⊥ }
-    ensures deep { (at : ℕ) → IsErrOf result (Deep at) → (d : DeclarationTree) → IsParameter (T.named types.now) nesting_limit (lexemes no_types source.now tokens.now) d → ⊥ }
+    ensures { IsRead (IsParameter (T.named types.now) nesting_limit (lexemes no_types source.now tokens.now)) (declaration_tree (lexemes no_types source.now tokens.now)) result }
 {
     let symbols = symbols(alloc, source, &NoTypes, tokens)?;
     let on = Tokens {

@@ -173,7 +173,7 @@ fn has_role(terminal: Terminal) -> bool
     }
 }
 
-// The role of a token.
+/// The role of a token.
 #[tactic(auto, unfolding(px_real_declarations::specs::Roles::role))]
 pub fn role(on: Tokens, symbol: Symbol) -> Role
     ensures { result ≡ role (see on.entry.source.now symbol) }

@@ -23,7 +23,7 @@ use px_syntax::Name;
 use px_terms::NoMemory;
 use std::alloc::Global;
 
-// Whether a token is a word that is the name of a type.
+/// Whether a token is a word that is the name of a type.
 pub fn is_type_name<T: TypeNames>(on: Tokens, types: &T, symbol: Symbol) -> bool
     ensures { result ≡ is_identifier (see on.entry.source.now symbol).terminal && T.named types.now (see on.entry.source.now symbol).text }
 {
@@ -33,7 +33,7 @@ pub fn is_type_name<T: TypeNames>(on: Tokens, types: &T, symbol: Symbol) -> bool
     types.is_type(text(on.source, symbol.start, symbol.end))
 }
 
-// Whether a specifier begins with a keyword of this role.
+/// Whether a specifier begins with a keyword of this role.
 pub fn begins_keyword(role: Role) -> bool
     ensures { result ≡ begins_keyword role }
 {
@@ -216,7 +216,7 @@ fn says_in_group(role: Role) -> bool
     }
 }
 
-// The specifiers from this number on, and the number of the token after them.
+/// The specifiers from this number on, and the number of the token after them.
 pub fn specifiers<T: TypeNames>(
     alloc: Global,
     on: Tokens,

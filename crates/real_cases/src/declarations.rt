@@ -33,7 +33,8 @@ pub fn write_declaration(
     Ok(())
 }
 
-fn write_specifiers(
+// Specifiers with blanks between.
+pub fn write_specifiers(
     specifiers: &[Specifier],
     out: &mut String,
     text: &str,
@@ -84,7 +85,8 @@ fn write_specifier(
     Ok(())
 }
 
-fn write_group(group: &Group, out: &mut String, text: &str, tokens: &[Token]) -> Result<()> {
+// A keyword and what stands in its parentheses.
+pub fn write_group(group: &Group, out: &mut String, text: &str, tokens: &[Token]) -> Result<()> {
     write_name(out, &group.word)?;
     write_held(out, text, tokens, group.held)
 }
@@ -123,7 +125,7 @@ fn write_declared(
 
 // A declarator: a name, or `-` where it is missing; what stands behind a star in parentheses after it.
 #[cycle(declarator)]
-fn write_declarator(
+pub fn write_declarator(
     declarator: &Declarator,
     out: &mut String,
     text: &str,

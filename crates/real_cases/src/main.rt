@@ -1,13 +1,14 @@
 //! Reads cases of the reading of real C, one a line, and prints what its calls make of each. What it prints must be its `stdout`.
 //!
-//! A line is one of the words `tokens`, `items`, `expression`, `read`, `body`, `declaration`, `member`, `parameter`, `types`, `cells`, `kept`, `fates` and `callee`,
-//! and a text in the short form of case_texts. In expressions and declarations the words `T`, `list` and `size_t` are names of types; `read` says only whether there is an
+//! A line is one of the words `tokens`, `items`, `expression`, `read`, `body`, `declaration`, `member`, `parameter`, `members`, `enumerators`, `parameters`, `head`, `types`, `cells`, `kept`, `fates`
+//! and `callee`, and a text in the short form of case_texts. In expressions and declarations the words `T`, `list` and `size_t` are names of types; `read` says only whether there is an
 //! expression. `types` says what the profile sees of the types of a declaration, `cells` of those of members, and `kept` of that of a parameter; `fates` and `callee` are of the
 //! functions of files, which a line spells in a form of its own (src/links.rt).
 #![tactic(auto)]
 
 mod bodies;
 mod declarations;
+mod held;
 mod links;
 mod shapes;
 mod trees;
@@ -17,10 +18,12 @@ use anyhow::{Context, Result, bail};
 use bodies::write_statements;
 use case_texts::{FILE, MOST_BYTES, answer_each, expanded, write_site};
 use declarations::write_declaration;
+use held::{write_all, write_enumerators, write_head, write_parameters};
 use links::{callee, fates};
 use px_real_blocks::{BodyFault, body_of};
 use px_real_cutting::{ItemFault, items};
 use px_real_declaring::{Declaration, DeclarationFault, declaration_of, member_of, parameter_of};
+use px_real_members::{enumerators_of, head_of, members_of, parameters_of};
 use px_real_reading::{ExpressionFault, expression_of};
 use px_real_tokens::{LexFault, Token, TokenKind, lex};
 use shapes::{write_layout, write_parameter, write_seen};
@@ -46,6 +49,10 @@ fn answer(alloc: Global, case: &str) -> Result<String> {
         "declaration" => declared(alloc, &text, Declares::Plain, false),
         "member" => declared(alloc, &text, Declares::Members, false),
         "parameter" => declared(alloc, &text, Declares::Parameter, false),
+        "members" => members(alloc, &text),
+        "enumerators" => enumerators(alloc, &text),
+        "parameters" => parameters(alloc, &text),
+        "head" => head(alloc, &text),
         "fates" => fates(alloc, &text),
         "callee" => callee(alloc, &text),
         "types" => declared(alloc, &text, Declares::Plain, true),
@@ -185,13 +192,8 @@ fn write_types(
 
 // The declaration that a text is, or the types that it says; or the fault.
 fn declared(alloc: Global, text: &str, declares: Declares, seen: bool) -> Result<String> {
-    if text.len() > MOST_BYTES {
-        bail!("a long text");
-    }
+    let tokens = tokens_of(alloc, text)?;
     let mut out = String::new(alloc);
-    let Ok(tokens) = lex(alloc, text.as_bytes(), FILE) else {
-        bail!("no tokens");
-    };
     let bytes = text.as_bytes();
     let read = match declares {
         Declares::Plain => declaration_of(alloc, bytes, &tokens, &SomeTypes),
@@ -206,15 +208,81 @@ fn declared(alloc: Global, text: &str, declares: Declares, seen: bool) -> Result
                 write_declaration(&tree, &mut out, text, &tokens)?;
             }
         }
-        Err(DeclarationFault::NotADeclaration(at)) => {
+        Err(fault) => write_declaration_fault(&mut out, &tokens, fault)?,
+    }
+    Ok(out)
+}
+
+// Why tokens aren't read, and where that was found.
+fn write_declaration_fault(
+    out: &mut String,
+    tokens: &[Token],
+    fault: DeclarationFault,
+) -> Result<()> {
+    match fault {
+        DeclarationFault::NotADeclaration(at) => {
             write!(out, "not a declaration")?;
-            write_place(&mut out, &tokens, at)?;
+            write_place(out, tokens, at)
         }
-        Err(DeclarationFault::Deep(at)) => {
+        DeclarationFault::Deep(at) => {
             write!(out, "too deep")?;
-            write_place(&mut out, &tokens, at)?;
+            write_place(out, tokens, at)
         }
-        Err(DeclarationFault::NoMemory) => bail!("no memory"),
+        DeclarationFault::NoMemory => bail!("no memory"),
+    }
+}
+
+// The tokens of a text, which must have some reading.
+fn tokens_of(alloc: Global, text: &str) -> Result<Vec<Token>> {
+    if text.len() > MOST_BYTES {
+        bail!("a long text");
+    }
+    let Ok(tokens) = lex(alloc, text.as_bytes(), FILE) else {
+        bail!("no tokens");
+    };
+    Ok(tokens)
+}
+
+// The members that a text is, or the fault.
+fn members(alloc: Global, text: &str) -> Result<String> {
+    let tokens = tokens_of(alloc, text)?;
+    let mut out = String::new(alloc);
+    match members_of(alloc, text.as_bytes(), &tokens, &SomeTypes) {
+        Ok(members) => write_all(&members, &mut out, text, &tokens)?,
+        Err(fault) => write_declaration_fault(&mut out, &tokens, fault)?,
+    }
+    Ok(out)
+}
+
+// The enumerators that a text is, or the fault.
+fn enumerators(alloc: Global, text: &str) -> Result<String> {
+    let tokens = tokens_of(alloc, text)?;
+    let mut out = String::new(alloc);
+    match enumerators_of(alloc, text.as_bytes(), &tokens) {
+        Ok(enumerators) => write_enumerators(&enumerators, &mut out, text, &tokens)?,
+        Err(fault) => write_declaration_fault(&mut out, &tokens, fault)?,
+    }
+    Ok(out)
+}
+
+// The parameters that a text is, or the fault.
+fn parameters(alloc: Global, text: &str) -> Result<String> {
+    let tokens = tokens_of(alloc, text)?;
+    let mut out = String::new(alloc);
+    match parameters_of(alloc, text.as_bytes(), &tokens, &SomeTypes) {
+        Ok(parameters) => write_parameters(&parameters, &mut out, text, &tokens)?,
+        Err(fault) => write_declaration_fault(&mut out, &tokens, fault)?,
+    }
+    Ok(out)
+}
+
+// The head of a function that a text is, or the fault.
+fn head(alloc: Global, text: &str) -> Result<String> {
+    let tokens = tokens_of(alloc, text)?;
+    let mut out = String::new(alloc);
+    match head_of(alloc, text.as_bytes(), &tokens, &SomeTypes) {
+        Ok(head) => write_head(&head, &mut out, text, &tokens)?,
+        Err(fault) => write_declaration_fault(&mut out, &tokens, fault)?,
     }
     Ok(out)
 }

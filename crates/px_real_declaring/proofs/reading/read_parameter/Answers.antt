@@ -1,16 +1,10 @@
-use Rattle.std.proofs.Common.{subst}
-use Rattle.px_real_symbols.specs.Answers.{IsFaultOf}
 use Rattle.px_real_symbols.specs.Symbols.{seen}
-use Rattle.px_real_declaring.specs.Whole.{whole_by}
-use Rattle.px_real_declarations.specs.Reading.{parameter_at}
-use Rattle.px_real_declaring.specs.Items.{nesting_limit}
-use Rattle.px_real_declaring.proofs.WholeLemmas.{no_parameter}
+use Rattle.px_real_declaring.specs.Trees.{declaration_tree}
+use Rattle.px_real_declaring.proofs.WholeLemmas.{parameter_found, no_parameter}
 use Rattle.px_real_declaring.proofs.reading.read_parameter.Goals as goal
 
-pub returns-in-Err-Wrong-clause-wrong : goal.returns-in-Err-Wrong-clause-wrong
-returns-in-Err-Wrong-clause-wrong g c = λ at h d m.
-    no_parameter _ (seen c.args.on) d _ (subst (λ z. IsFaultOf (seen c.args.on) z (whole_by (parameter_at (g.T.TypeNames.named c.args.types.now) nesting_limit) (seen c.args.on))) c.in-Err-Wrong.field-0-is c.in-Err-Wrong.ensures) m
+pub returns-in-Ok : goal.returns-in-Ok
+returns-in-Ok g c = parameter_found (g.T.TypeNames.named c.args.types.now) (seen c.args.on) (declaration_tree (seen c.args.on) c.in-Ok.tree) c.in-Ok.ensures
 
-pub returns-in-Err-Deep-clause-deep : goal.returns-in-Err-Deep-clause-deep
-returns-in-Err-Deep-clause-deep g c = λ at h d m.
-    no_parameter _ (seen c.args.on) d _ (subst (λ z. IsFaultOf (seen c.args.on) z (whole_by (parameter_at (g.T.TypeNames.named c.args.types.now) nesting_limit) (seen c.args.on))) c.in-Err-Deep.field-0-is c.in-Err-Deep.ensures) m
+pub returns-in-Err : goal.returns-in-Err
+returns-in-Err g c = no_parameter (g.T.TypeNames.named c.args.types.now) (seen c.args.on) (seen c.args.on) c.in-Err.fault c.as_fault.result c.as_fault.ensures c.in-Err.ensures

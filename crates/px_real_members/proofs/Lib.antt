@@ -1,0 +1,3 @@
+pub mod CommaLoops
+pub mod LineLoops
+pub mod WholeLemmas
