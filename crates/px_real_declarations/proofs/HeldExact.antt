@@ -7,7 +7,7 @@ use Rattle.px_real_expressions.specs.Lexemes.{Lexeme, front_if}
 use Rattle.px_real_expressions.specs.Operators.{is_identifier}
 use Rattle.px_real_expressions.specs.Stops.{wrong, ◌>>=◌}
 use Rattle.px_real_expressions.proofs.Tools.{done, both_are, bind_ok, if_is, Reads}
-use Rattle.px_real_declarations.specs.declared.ending.Ending.TheVariants as E
+use Rattle.px_real_declarations.specs.declared.trailing.Trailing.TheVariants as E
 use Rattle.px_real_declarations.specs.declared.role.Role.TheVariants as R
 use Rattle.px_real_declarations.specs.Roles.{role, same_role, begins_keyword}
 use Rattle.px_real_declarations.specs.DeclarationTree.{DeclarationTree, EnumeratorTree, ParametersTree, parameters, identifiers}

@@ -7,8 +7,8 @@ use Rattle.px_real_expressions.specs.Stops.{wrong, ◌>>=◌}
 use Rattle.px_real_expressions.specs.Reading.{Reader}
 use Rattle.px_real_expressions.specs.Grammar.{Gram, MoreItems, no_item, an_item}
 use Rattle.px_real_expressions.proofs.Tools.{done, both_are, bind_ok, same_is, Reads}
-use Rattle.px_real_declarations.specs.declared.ending.Ending.{Ending}
-use Rattle.px_real_declarations.specs.declared.ending.Ending.TheVariants as E
+use Rattle.px_real_declarations.specs.declared.trailing.Trailing.{Trailing}
+use Rattle.px_real_declarations.specs.declared.trailing.Trailing.TheVariants as E
 use Rattle.px_real_declarations.specs.declared.role.Role.TheVariants as R
 use Rattle.px_real_declarations.specs.Roles.{role, same_role}
 use Rattle.px_real_declarations.specs.Grammar.{Listed, none_listed, some_listed}
@@ -16,13 +16,13 @@ use Rattle.px_real_declarations.specs.HeldReading.{next_of, behind_comma, on_nex
 use Rattle.px_real_declarations.proofs.PartExact.{at_end, Ended, at_over, at_comma}
 
 -- what follows the last
-pub data Tail (e : Ending) : List Lexeme → Bool → Type 0 where
+pub data Tail (e : Trailing) : List Lexeme → Bool → Type 0 where
   no_tail : {ts : List Lexeme} {b : Bool} → ts ≡ [] → b ≡ false → Tail e ts b
   dots_tail : {c t : Lexeme} {ts : List Lexeme} {b : Bool} → e ≡ E.Dots → c.terminal ≡ T.Comma → same_role R.Ellipsis (role t) ≡ true → ts ≡ c ∷ t ∷ [] → b ≡ true → Tail e ts b
   comma_tail : {c : Lexeme} {ts : List Lexeme} {b : Bool} → e ≡ E.Comma → c.terminal ≡ T.Comma → ts ≡ c ∷ [] → b ≡ false → Tail e ts b
 
 -- one by one
-pub data Separated {A : Type 0} (e : Ending) (G : Gram A) : List Lexeme → List A → Bool → Type 0 where
+pub data Separated {A : Type 0} (e : Trailing) (G : Gram A) : List Lexeme → List A → Bool → Type 0 where
   the_last : {ts1 ts2 ts : List Lexeme} {x : A} {xs : List A} {b : Bool} → G ts1 x → Tail e ts2 b → ts ≡ ts1 ++ ts2 → xs ≡ x ∷ [] → Separated e G ts xs b
   one_before : (c : Lexeme) {ts1 ts2 ts : List Lexeme} {x : A} {xs1 xs : List A} {b : Bool} → G ts1 x → c.terminal ≡ T.Comma → Separated e G ts2 xs1 b → ts ≡ ts1 ++ c ∷ ts2 → xs ≡ x ∷ xs1 → Separated e G ts xs b
 
@@ -45,7 +45,7 @@ both_of {A = A} a b x y us vs h =
     let one : l ≡ r = p.0 in
     (ap (λ z. z.0) one, ap (λ z. z.1) one, p.1)
 
-module _ {A : Type 0} (e : Ending) {G : Gram A} {r : Reader A} (p : ExactOf G r) where
+module _ {A : Type 0} (e : Trailing) {G : Gram A} {r : Reader A} (p : ExactOf G r) where
   pub separated_sound : (n : ℕ) (ts : List Lexeme) (xs : List A) (b : Bool) → separated_from e n r ts ≡ Ok ((xs, b), []) → Separated e G ts xs b
   unfolding separated_from
   separated_sound zero ts xs b h = absurd cc
@@ -74,7 +74,7 @@ module _ {A : Type 0} (e : Ending) {G : Gram A} {r : Reader A} (p : ExactOf G r)
               the_last m (dots_tail is k d (ap (λ z. c ∷ z) (same ∙ ap (λ z. t ∷ z) q.2)) (sym q.1)) parts (sym q.0)
           dotted t vs false is k same d g1 = more k (rw same g1)
 
-          comma : (f : Ending) (vs : List Lexeme) → e ≡ f → us ≡ vs → c.terminal ≡ T.Comma → on_next x (behind_comma f vs) (separated_from e n r) ≡ Ok ((xs, b), []) → Separated e G ts xs b
+          comma : (f : Trailing) (vs : List Lexeme) → e ≡ f → us ≡ vs → c.terminal ≡ T.Comma → on_next x (behind_comma f vs) (separated_from e n r) ≡ Ok ((xs, b), []) → Separated e G ts xs b
           comma E.Nothing vs is same k g1 = more k (rw same g1)
           comma E.Dots [] is same k g1 = more k (rw same g1)
           comma E.Dots (t ∷ vs) is same k g1 = dotted t vs (same_role R.Ellipsis (role t)) is k same refl g1
@@ -101,7 +101,7 @@ module _ {A : Type 0} (e : Ending) {G : Gram A} {r : Reader A} (p : ExactOf G r)
   separated_first (the_last {ts2 = ts2} m t parts g) = let f = p.first m in (f.0, f.1 ++ ts2, f.2, parts ∙ ap (λ z. z ++ ts2) f.3)
   separated_first (one_before c {ts2 = ts2} m k s parts g) = let f = p.first m in (f.0, f.1 ++ c ∷ ts2, f.2, parts ∙ ap (λ z. z ++ c ∷ ts2) f.3)
 
-  another_there : (f : Ending) (t : Lexeme) (us : List Lexeme) → same_role R.Ellipsis (role t) ≡ false → behind_comma f (t ∷ us) ≡ another (t ∷ us)
+  another_there : (f : Trailing) (t : Lexeme) (us : List Lexeme) → same_role R.Ellipsis (role t) ≡ false → behind_comma f (t ∷ us) ≡ another (t ∷ us)
   another_there E.Nothing t us d = refl
   another_there E.Dots t us d = rw d refl
   another_there E.Comma t us d = refl
@@ -122,7 +122,7 @@ module _ {A : Type 0} (e : Ending) {G : Gram A} {r : Reader A} (p : ExactOf G r)
 
 -- ---- as a list and what follows it
 
-pub record InParts {A : Type 0} (e : Ending) (G : Gram A) (ts : List Lexeme) (xs : List A) (b : Bool) : Type 0 where
+pub record InParts {A : Type 0} (e : Trailing) (G : Gram A) (ts : List Lexeme) (xs : List A) (b : Bool) : Type 0 where
   pub listed : List Lexeme
   pub behind : List Lexeme
   pub x : A
@@ -139,7 +139,7 @@ module _ {A : Type 0} {G : Gram A} where
       let q : (y ≡ x) × (ys ≡ xs) = (cc, cc) in
       (ts1, ts2, rw (← q.0) m, rw (← q.1) ms, parts)
 
-module _ {A : Type 0} {e : Ending} {G : Gram A} where
+module _ {A : Type 0} {e : Trailing} {G : Gram A} where
   pub in_parts : {ts : List Lexeme} {xs : List A} {b : Bool} → Separated e G ts xs b → InParts e G ts xs b
   in_parts (the_last {ts1 = ts1} {ts2 = ts2} {x = x} m t parts g) =
       record { listed = ts1; behind = ts2; x = x; rest = []; is = some_listed m (no_item refl refl) (sym (append-nil ts1)) refl; tail = t; parts = parts; same = g }

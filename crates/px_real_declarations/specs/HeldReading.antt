@@ -6,8 +6,8 @@ use Rattle.px_real_expressions.specs.Operators.{is_identifier}
 use Rattle.px_real_expressions.specs.Stops.{Stop, wrong, Read, ◌>>=◌, expect}
 use Rattle.px_real_expressions.specs.Reading.{Reader}
 use Rattle.px_real_expressions.specs.declared.terminal.Terminal.TheVariants as T
-use Rattle.px_real_declarations.specs.declared.ending.Ending.{Ending}
-use Rattle.px_real_declarations.specs.declared.ending.Ending.TheVariants as E
+use Rattle.px_real_declarations.specs.declared.trailing.Trailing.{Trailing}
+use Rattle.px_real_declarations.specs.declared.trailing.Trailing.TheVariants as E
 use Rattle.px_real_declarations.specs.declared.role.Role.TheVariants as R
 use Rattle.px_real_declarations.specs.Roles.{role, same_role}
 use Rattle.px_real_declarations.specs.DeclarationTree.{DeclarationTree, EnumeratorTree, ParametersTree, parameters, identifiers, HeadTree}
@@ -52,12 +52,12 @@ pub data Next : Type 0 where
   dots : List Lexeme → Next
   another : List Lexeme → Next
 
-abbrev pub behind_comma : Ending → List Lexeme → Next
+abbrev pub behind_comma : Trailing → List Lexeme → Next
 behind_comma E.Comma [] = last []
 behind_comma E.Dots (t ∷ ts) = if same_role R.Ellipsis (role t) then dots ts else another (t ∷ ts)
 behind_comma _ ts = another ts
 
-abbrev pub next_of : Ending → List Lexeme → Result Next Stop
+abbrev pub next_of : Trailing → List Lexeme → Result Next Stop
 next_of e [] = Ok (last [])
 next_of e (t ∷ ts) = if same t.terminal T.Comma then Ok (behind_comma e ts) else Err (wrong (t ∷ ts))
 
@@ -67,7 +67,7 @@ on_next x (dots ts) more = Ok ((x ∷ [], true), ts)
 on_next x (another ts) more = more ts >>= λ y. Ok ((x ∷ y.0.0, y.0.1), y.1)
 
 -- one and at most n - 1 more, with commas between, and whether `...` follows them
-unfoldable pub separated_from : {A : Type 0} → Ending → ℕ → Reader A → Reader (List A × Bool)
+unfoldable pub separated_from : {A : Type 0} → Trailing → ℕ → Reader A → Reader (List A × Bool)
 separated_from e zero item ts = Err (wrong ts)
 separated_from e (suc n) item ts = item ts >>= λ x. next_of e x.1 >>= λ y. on_next x.0 y (separated_from e n item)
 

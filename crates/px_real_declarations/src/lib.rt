@@ -3,10 +3,10 @@
 //! enumerators, initialisers and arguments of attributes are held as their tokens.
 #![tactic(auto)]
 
-mod ending;
 mod laws;
 mod role;
+mod trailing;
 
-pub use ending::Ending;
 pub use laws::{one_declaration, one_member, one_parameter, worked_declarations};
 pub use role::Role;
+pub use trailing::Trailing;

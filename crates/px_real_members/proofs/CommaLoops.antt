@@ -7,7 +7,7 @@ use Rattle.px_real_expressions.specs.Reading.{Reader}
 use Rattle.px_real_symbols.specs.declared.fault.Fault.{Fault}
 use Rattle.px_real_symbols.specs.Answers.{IsFaultOf}
 use Rattle.px_real_symbols.proofs.AnswerLemmas.{passes_on}
-use Rattle.px_real_declarations.specs.declared.ending.Ending.{Ending}
+use Rattle.px_real_declarations.specs.declared.trailing.Trailing.{Trailing}
 use Rattle.px_real_declarations.specs.HeldReading.{last, dots, another, behind_comma, next_of, separated_from}
 
 -- these before what is read
@@ -23,7 +23,7 @@ before_one : {A : Type 0} (before : List A) (a : A) (r : Read (List A × Bool)) 
 before_one before a (Ok x) = ap (λ z. Ok ((z, x.0.1), x.1)) (append_assoc before (a ∷ []) x.0.0)
 before_one before a (Err s) = refl
 
-module _ {A : Type 0} (e : Ending) (r : Reader A) where
+module _ {A : Type 0} (e : Trailing) (r : Reader A) where
   pub last_one : (limit i : ℕ) (before : List A) (rest us vs : List Lexeme) (a : A) (total : Read (List A × Bool)) → i < limit → r rest ≡ Ok (a, us) → next_of e us ≡ Ok (last vs) →
       with_before before (separated_from e (limit - i) r rest) ≡ total → total ≡ Ok ((before ++ a ∷ [], false), vs)
   unfolding separated_from
@@ -65,7 +65,7 @@ module _ {A : Type 0} (e : Ending) (r : Reader A) where
 
 -- ---- what follows one of several
 
-pub no_comma : (e : Ending) (ts : List Lexeme) → 0 < length ts → None ≡ front T.Comma ts → next_of e ts ≡ Err (wrong ts)
+pub no_comma : (e : Trailing) (ts : List Lexeme) → 0 < length ts → None ≡ front T.Comma ts → next_of e ts ≡ Err (wrong ts)
 no_comma e [] lt h = absurd (omega arith)
 no_comma e (t ∷ ts) lt h = by (same t.terminal T.Comma) h
   where
@@ -76,7 +76,7 @@ no_comma e (t ∷ ts) lt h = by (same t.terminal T.Comma) h
     by true g = absurd cc
     by false g = refl
 
-pub a_comma : (e : Ending) (ts : List Lexeme) (c : Lexeme × List Lexeme) → Some c ≡ front T.Comma ts → next_of e ts ≡ Ok (behind_comma e c.1)
+pub a_comma : (e : Trailing) (ts : List Lexeme) (c : Lexeme × List Lexeme) → Some c ≡ front T.Comma ts → next_of e ts ≡ Ok (behind_comma e c.1)
 a_comma e [] c h = absurd cc
 a_comma e (t ∷ ts) c h = by (same t.terminal T.Comma) h
   where

@@ -2,12 +2,12 @@ ghost use Rattle.std.specs.Prelude.{◌≡◌, drop, length, map};
 ghost use Rattle.px_real_symbols.specs.Answers.{Gives};
 ghost use Rattle.px_real_symbols.specs.Symbols.{seen};
 ghost use Rattle.px_real_declarations.specs.HeldReading.{enumerator_at, enumerators_at, separated_from};
-ghost use Rattle.px_real_declarations.specs.declared.ending.Ending.TheVariants.{Comma};
+ghost use Rattle.px_real_declarations.specs.declared.trailing.Trailing.TheVariants.{Comma};
 ghost use Rattle.px_real_members.specs.Trees.{enumerator_tree};
 
 use crate::commas::{Next, next_of};
 use crate::tree::Enumerator;
-use px_real_declarations::Ending;
+use px_real_declarations::Trailing;
 use px_real_declaring::declarations::value;
 use px_real_declaring::groups::attributes;
 use px_real_expressions::Terminal;
@@ -52,7 +52,7 @@ fn some_enumerators(
     for _ in 0..left(on, start) {
         let (enumerator, after) = enumerator(alloc, on, at)?;
         all.push(enumerator)?;
-        let next = next_of(Ending::Comma, on, after)?;
+        let next = next_of(Trailing::Comma, on, after)?;
         match next {
             Next::Last(last) => return Ok((all, false, last)),
             Next::Dots(last) => return Ok((all, true, last)),

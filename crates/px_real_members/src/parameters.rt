@@ -3,7 +3,7 @@ ghost use Rattle.px_real_symbols.specs.Answers.{Gives};
 ghost use Rattle.px_real_symbols.specs.Symbols.{see, seen};
 ghost use Rattle.px_real_declarations.specs.Reading.{parameter_at};
 ghost use Rattle.px_real_declarations.specs.HeldReading.{is_other_name, other_at, separated_from, parameters_at};
-ghost use Rattle.px_real_declarations.specs.declared.ending.Ending.TheVariants.{Nothing, Dots};
+ghost use Rattle.px_real_declarations.specs.declared.trailing.Trailing.TheVariants.{Nothing, Dots};
 ghost use Rattle.px_real_declaring.specs.Items.{nesting_limit};
 ghost use Rattle.px_real_declaring.specs.Trees.{declaration_tree};
 ghost use Rattle.px_real_members.specs.Trees.{parameters_tree};
@@ -11,7 +11,7 @@ ghost use Rattle.px_real_members.specs.Trees.{parameters_tree};
 use crate::commas::{Next, next_of};
 use crate::tree::Parameters;
 use px_expressions::text;
-use px_real_declarations::Ending;
+use px_real_declarations::Trailing;
 use px_real_declaring::Declaration;
 use px_real_declaring::declarations::parameter;
 use px_real_symbols::TypeNames;
@@ -65,7 +65,7 @@ fn names<T: TypeNames>(
     for _ in 0..left(on, start) {
         let (name, after) = other(alloc, on, types, at)?;
         all.push(name)?;
-        let next = next_of(Ending::Nothing, on, after)?;
+        let next = next_of(Trailing::Nothing, on, after)?;
         match next {
             Next::Last(last) => return Ok((all, false, last)),
             Next::Dots(last) => return Ok((all, true, last)),
@@ -89,7 +89,7 @@ fn declared<T: TypeNames>(
     for _ in 0..left(on, start) {
         let (parameter, after) = parameter(alloc, on, types, at)?;
         all.push(parameter)?;
-        let next = next_of(Ending::Dots, on, after)?;
+        let next = next_of(Trailing::Dots, on, after)?;
         match next {
             Next::Last(last) => return Ok((all, false, last)),
             Next::Dots(last) => return Ok((all, true, last)),

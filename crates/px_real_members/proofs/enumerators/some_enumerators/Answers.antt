@@ -2,7 +2,7 @@ use Rattle.std.proofs.Common.{◌≡◌, ◌-◌, ◌++◌, ◌∷◌, [], Ok, m
 use Rattle.std.proofs.lemmas.Result.{err_from_is_err_and}
 use Rattle.std.proofs.lemmas.List.{map_push}
 use Rattle.px_real_symbols.specs.Symbols.{seen}
-use Rattle.px_real_declarations.specs.declared.ending.Ending.TheVariants as E
+use Rattle.px_real_declarations.specs.declared.trailing.Trailing.TheVariants as E
 use Rattle.px_real_declarations.specs.HeldReading.{enumerator_at}
 use Rattle.px_real_members.specs.Trees.{enumerator_tree}
 use Rattle.px_real_members.specs.Trees.{next_view}

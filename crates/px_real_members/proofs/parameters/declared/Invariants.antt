@@ -1,6 +1,6 @@
 use Rattle.std.proofs.Common.{◌≡◌, ◌-◌, map, length, drop}
 use Rattle.px_real_symbols.specs.Symbols.{seen}
-use Rattle.px_real_declarations.specs.declared.ending.Ending.TheVariants as E
+use Rattle.px_real_declarations.specs.declared.trailing.Trailing.TheVariants as E
 use Rattle.px_real_declarations.specs.HeldReading.{separated_from}
 use Rattle.px_real_declarations.specs.Reading.{parameter_at}
 use Rattle.px_real_declaring.specs.Items.{nesting_limit}

@@ -1,7 +1,7 @@
 use Rattle.std.proofs.Common.{◌≡◌, ◌-◌, ◌++◌, ◌∷◌, [], Ok, length, drop, ap, ◌∙◌, arith}
 use Rattle.std.proofs.lemmas.Result.{err_from_is_err_and}
 use Rattle.px_real_symbols.specs.Symbols.{seen}
-use Rattle.px_real_declarations.specs.declared.ending.Ending.TheVariants as E
+use Rattle.px_real_declarations.specs.declared.trailing.Trailing.TheVariants as E
 use Rattle.px_real_declarations.specs.HeldReading.{other_at}
 use Rattle.px_real_members.specs.Trees.{next_view}
 use Rattle.px_real_members.proofs.CommaLoops.{before_none, last_one, dots_behind, another_one, item_err, next_err, none_there}
