@@ -157,9 +157,9 @@ input_done to site s =
 
 -- ---- division
 
--- the quotient of two constants
+-- the quotient of two constants; none is by 0
 abbrev pub constant_quotient : Option ℕ → Option ℕ → Option Content
-constant_quotient (Some m) (Some n) = Some (Word (record { constant = word_quotient m n; monomials = [] }))
+constant_quotient (Some m) (Some n) = elim (nat_eq n 0) [ true ↦ None | false ↦ Some (Word (record { constant = word_quotient m n; monomials = [] })) ]
 constant_quotient (Some m) None = None
 constant_quotient None n = None
 
@@ -169,7 +169,8 @@ quotient_by to p q None s =
     set_slot to (Word (variable (length s.vars))) (assumed (conjunct.Quotient (record { 0 = length s.vars }) p q) (with_variables (info sort.Input Int ∷ []) s))
 quotient_by to p q (Some c) s = set_slot to c s
 
--- by 0 it fails; else there is a quotient
+-- By 0 it fails; else there is a quotient. What the quotient is of has to be a word, which a polynomial that is too
+-- long isn't asked.
 abbrev pub word_ways : List VarInfo → Polynomial → Polynomial → List Way
 word_ways vars p q =
     listed_if (is_open vars (conjunct.Equal q)) way.ByZero
@@ -179,6 +180,7 @@ abbrev pub or_none : Option (List Way) → List Way
 or_none None = []
 or_none (Some ways) = ways
 
+-- contents that aren't words aren't divided
 abbrev pub divide_ways : List VarInfo → Content → Content → List Way
 divide_ways vars a b = or_none (of_words (word_ways vars) a b)
 

@@ -8,6 +8,7 @@ mod atoms;
 mod bounds;
 mod changes;
 mod contents;
+mod divisions;
 mod meetings;
 mod pointers;
 mod ways;
@@ -19,6 +20,7 @@ pub use changes::{
     unless_there, variable_content,
 };
 pub use contents::{content_fits, has_type, is_cell, is_int_type, operand_fits};
+pub use divisions::{lacks_quotient, take_quotient};
 pub use meetings::{cells_of, meet_freed, meet_live};
 pub use pointers::accessed;
 pub use ways::command_ways;

@@ -19,6 +19,7 @@ ghost use Rattle.px_ways.specs.Ways.{or_unwritten, test_listed};
 
 use crate::contents::{is_word, is_written, operand_fits, slot_content};
 use crate::meetings::cells_of;
+use crate::divisions::divide_ways;
 use crate::pointers::{access_ways, accessed, put_way};
 use px_base::FieldId;
 use px_callgraph::{Job, State, Way};
@@ -83,7 +84,7 @@ pub fn command_ways(
         Command::Call { arguments, .. } => on_if(alloc, are_arguments(state, arguments)),
         Command::Return { from } => on_if(alloc, returns(state, job.body.result, *from)),
         Command::Stop { .. } => drop_alone(alloc),
-        Command::Divide { .. } => Ok(Vec::new(alloc)),
+        Command::Divide { a, b, .. } => divide_ways(alloc, state, a, b),
     }
 }
 
