@@ -155,6 +155,8 @@ choosing_few j s h c k way.Made = tt
 choosing_few j s h c k way.Written = tt
 choosing_few j s h c k way.Unwritten = tt
 choosing_few j s h c k (way.Atom n) = tt
+choosing_few j s h c k way.ByZero = tt
+choosing_few j s h c k way.Divided = tt
 
 stage_few : (j : JobTree) (s : State) → IsFew s → (c : Calling) (k : List Item) (stage : Stage) (w : Way) → GoesFew (stage_act j s c k stage w)
 stage_few j s h c k choosing w = choosing_few j s h c k w

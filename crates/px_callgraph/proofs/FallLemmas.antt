@@ -289,6 +289,8 @@ case_stage j x σ rest used p way.Written o s = omega arith
 case_stage j x σ rest used p way.Unwritten o s = omega arith
 case_stage j x σ rest used p (way.Entry n) o s = omega arith
 case_stage j x σ rest used p way.Drop o s = omega arith
+case_stage j x σ rest used p way.ByZero o s = omega arith
+case_stage j x σ rest used p way.Divided o s = omega arith
 
 module _ (j : JobTree) (s : State) (c : Calling) (k : List Item) where
   choosing_falls : (w : Way) → FallsBelow j (acts_left j (going_on c k s choosing)) (choosing_act j s c k w)
@@ -310,6 +312,8 @@ module _ (j : JobTree) (s : State) (c : Calling) (k : List Item) where
   choosing_falls way.Written = tt
   choosing_falls way.Unwritten = tt
   choosing_falls (way.Atom n) = tt
+  choosing_falls way.ByZero = tt
+  choosing_falls way.Divided = tt
 
   pub stage_falls : (stage : Stage) (w : Way) → FallsBelow j (acts_left j (going_on c k s stage)) (stage_act j s c k stage w)
   unfolding acts_left

@@ -217,6 +217,8 @@ choosing_grows j s c k way.Made = grows_self s
 choosing_grows j s c k way.Written = grows_self s
 choosing_grows j s c k way.Unwritten = grows_self s
 choosing_grows j s c k (way.Atom n) = grows_self s
+choosing_grows j s c k way.ByZero = grows_self s
+choosing_grows j s c k way.Divided = grows_self s
 
 stage_grows : (j : JobTree) (s : State) (c : Calling) (k : List Item) (stage : Stage) (w : Way) → Grows s (state_of (stage_act j s c k stage w))
 stage_grows j s c k choosing w = choosing_grows j s c k w
