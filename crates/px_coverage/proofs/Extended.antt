@@ -6,8 +6,9 @@ use Rattle.std.proofs.lemmas.Option.{slice_get_within}
 use Rattle.px_terms.specs.Types.{types_of}
 use Rattle.px_terms.specs.Words.{signed}
 use Rattle.px_terms.specs.Variables.{variables_of, place_variables, mentioned}
-use Rattle.px_terms.specs.Valuations.{Valuation}
-use Rattle.px_terms.specs.Conjuncts.{IsTrueUnder}
+use Rattle.px_terms.specs.Polynomials.{Polynomial}
+use Rattle.px_terms.specs.Valuations.{Valuation, IsWord}
+use Rattle.px_terms.specs.Conjuncts.{word_of, HasWords, IsTrueUnder}
 use Rattle.px_terms.specs.declared.types.Value.{Value}
 use Rattle.px_terms.specs.declared.types.Value.TheVariants as value
 use Rattle.px_terms.specs.declared.types.BlockType.{BlockType}
@@ -27,7 +28,7 @@ use Rattle.px_entry.specs.Sorts.{is_variable_with, is_cell}
 use Rattle.px_entry.specs.Contents.{fit_each}
 use Rattle.px_entry.specs.Regular.{fits_state, is_own_cell, state_cells}
 use Rattle.px_entry.specs.Standing.{content_value, contents_value}
-use Rattle.px_entry.proofs.Lists.{Each, each_append, each_all}
+use Rattle.px_entry.proofs.Lists.{Each, each_append, each_all, all_each}
 use Rattle.px_meaning.specs.Heaps.{HeapMap, «Live» as block_live, join}
 use Rattle.px_meaning.specs.Operations.{value_at}
 use Rattle.px_meaning.specs.Triples.{state_of, heap_of}
