@@ -39,9 +39,7 @@ pub(crate) fn divide(
     let a = operand_of(alloc, &state, a)?;
     let b = operand_of(alloc, &state, b)?;
     match (&a, &b) {
-        (Content::Word(p), Content::Word(q)) => {
-            divide_words(alloc, state, to, p, q, site, way)
-        }
+        (Content::Word(p), Content::Word(q)) => { divide_words(alloc, state, to, p, q, site, way) }
         _ => begin_alone(alloc, state),
     }
 }
