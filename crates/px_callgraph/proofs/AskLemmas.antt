@@ -144,6 +144,8 @@ item_few j s h (AfterStep l ∷ k) w = h
 choosing_few : (j : JobTree) (s : State) → IsFew s → (c : Calling) (k : List Item) (w : Way) → GoesFew (choosing_act j s c k w)
 choosing_few j s h c k (way.Entry n) = h
 choosing_few j s h c k way.Drop = tt
+choosing_few j s h c k way.ByZero = tt
+choosing_few j s h c k way.Divided = tt
 choosing_few j s h c k way.Null = tt
 choosing_few j s h c k way.MissingLive = tt
 choosing_few j s h c k way.MissingFreed = tt
@@ -155,8 +157,6 @@ choosing_few j s h c k way.Made = tt
 choosing_few j s h c k way.Written = tt
 choosing_few j s h c k way.Unwritten = tt
 choosing_few j s h c k (way.Atom n) = tt
-choosing_few j s h c k way.ByZero = tt
-choosing_few j s h c k way.Divided = tt
 
 stage_few : (j : JobTree) (s : State) → IsFew s → (c : Calling) (k : List Item) (stage : Stage) (w : Way) → GoesFew (stage_act j s c k stage w)
 stage_few j s h c k choosing w = choosing_few j s h c k w

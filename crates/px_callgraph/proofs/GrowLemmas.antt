@@ -26,7 +26,7 @@ use Rattle.px_entry.specs.declared.atoms.AtomState.TheVariants.{Live, Freed}
 use Rattle.px_entry.specs.declared.entries.Entry.{Entry}
 use Rattle.px_entry.specs.declared.entries.Exit.{Exit}
 use Rattle.px_entry.specs.declared.entries.Exit.TheVariants as exit
-use Rattle.px_entry.specs.Decided.{assume, is_true, decided, stands_in}
+use Rattle.px_entry.specs.Decided.{word_of, assume, is_true, decided, stands_in}
 use Rattle.px_entry.specs.Cases.{is_freed}
 use Rattle.px_entry.specs.Contents.{variable_content}
 use Rattle.px_entry.specs.Constraint.{found_atoms, made_atoms}
@@ -37,7 +37,7 @@ use Rattle.px_callgraph.specs.JobTree.{JobTree}
 use Rattle.px_callgraph.specs.States.{on, content_at, operand_content, set_slot, marked, begun, assumed, info, with_variables, with_atom, met}
 use Rattle.px_callgraph.specs.Operations.{operation, condition, contrary}
 use Rattle.px_callgraph.specs.Accesses.{Access, accessed, atom_of, block_cells, cell_infos, meet_live, meet_freed, set_atom, change_atom, load_access, store_access, free_access, use_state, use_atom, reach_atom, reach_missing, access_done}
-use Rattle.px_callgraph.specs.Commands.{read_cell, read_written, read_unwritten, read_done, test_outcome, test_done, last_loop, leaving, make, malloc_done, assume_all, is_input_byte, input_done, quotient_by, words_divided, divide_done, returned, return_done, through_place, assign_done, act_done}
+use Rattle.px_callgraph.specs.Commands.{read_cell, read_written, read_unwritten, read_done, test_outcome, test_done, last_loop, leaving, make, malloc_done, assume_all, is_input_byte, input_done, constant_quotient, quotient_by, words_divided, divide_done, returned, return_done, through_place, assign_done, act_done}
 use Rattle.px_callgraph.specs.Renaming.{Substitution, Claim, surely, never, claims, claim_through, assume_claim, state_through, new_variables}
 use Rattle.px_callgraph.specs.Calls.{Calling, take_atom, take_case, meet_required, assume_entry, update_atoms, made_through, leave_atoms, add_trace, result_through, keep_result, end_call, entry_terms, finish_with, stand_all, finish_call}
 
@@ -312,33 +312,33 @@ input_grows to site s =
     (grows_trans v b _ (assume_all_grows (is_input_byte (length s.vars)) v) (grows_slot to _ b)))
 
 quotient_grows : (to : ℕ) (p q : Polynomial) (o : Option Content) (s : State) → Grows s (quotient_by to p q o s)
-quotient_grows to p q None s =
-    let c = conjunct.Quotient (record { 0 = length s.vars }) p q in
-    let v : State = with_variables (info sort.Input Int ∷ []) s in
-    grows_trans s v _ (grows_variables (info sort.Input Int ∷ []) s) (grows_trans v (assumed c v) _ (grows_assumed c v) (grows_slot to _ (assumed c v)))
 quotient_grows to p q (Some c) s = grows_slot to c s
+quotient_grows to p q None s =
+    let v : State = with_variables (info sort.Input Int ∷ []) s in
+    let c : Conj = conjunct.Quotient (record { 0 = length s.vars }) p q in
+    grows_trans s v _ (grows_variables (info sort.Input Int ∷ []) s) (grows_trans v (assumed c v) _ (grows_assumed c v) (grows_slot to _ (assumed c v)))
 
-words_grow : (to : ℕ) (site : Site) (p q : Polynomial) (w : Way) (s : State) → Grows s (words_divided to site w s p q).state
-words_grow to site p q way.ByZero s = grows_assumed (conjunct.Equal q) s
-words_grow to site p q way.Divided s =
+words_grow : (to : ℕ) (site : Site) (w : Way) (s : State) (p q : Polynomial) → Grows s (words_divided to site w s p q).state
+words_grow to site way.ByZero s p q = grows_assumed (conjunct.Equal q) s
+words_grow to site way.Divided s p q =
     let t : State = assumed (conjunct.Unequal q) s in
-    grows_trans s t _ (grows_assumed (conjunct.Unequal q) s) (quotient_grows to p q _ t)
-words_grow to site p q way.On s = grows_self s
-words_grow to site p q way.Then s = grows_self s
-words_grow to site p q way.Else s = grows_self s
-words_grow to site p q way.Null s = grows_self s
-words_grow to site p q way.Made s = grows_self s
-words_grow to site p q way.Written s = grows_self s
-words_grow to site p q way.Unwritten s = grows_self s
-words_grow to site p q (way.Atom n) s = grows_self s
-words_grow to site p q way.MissingLive s = grows_self s
-words_grow to site p q way.MissingFreed s = grows_self s
-words_grow to site p q way.Missing s = grows_self s
-words_grow to site p q (way.Entry n) s = grows_self s
-words_grow to site p q way.Drop s = grows_self s
+    grows_trans s t _ (grows_assumed (conjunct.Unequal q) s) (quotient_grows to p q (constant_quotient (word_of p) (word_of q)) t)
+words_grow to site way.On s p q = grows_self s
+words_grow to site way.Then s p q = grows_self s
+words_grow to site way.Else s p q = grows_self s
+words_grow to site way.Null s p q = grows_self s
+words_grow to site way.Made s p q = grows_self s
+words_grow to site way.Written s p q = grows_self s
+words_grow to site way.Unwritten s p q = grows_self s
+words_grow to site (way.Atom n) s p q = grows_self s
+words_grow to site way.MissingLive s p q = grows_self s
+words_grow to site way.MissingFreed s p q = grows_self s
+words_grow to site way.Missing s p q = grows_self s
+words_grow to site (way.Entry n) s p q = grows_self s
+words_grow to site way.Drop s p q = grows_self s
 
 divide_grows : (to : ℕ) (site : Site) (a b : Content) (w : Way) (s : State) → Grows s (divide_done to site a b w s).state
-divide_grows to site (Word p) (Word q) w s = words_grow to site p q w s
+divide_grows to site (Word p) (Word q) w s = words_grow to site w s p q
 divide_grows to site (Word p) Unwritten w s = grows_self s
 divide_grows to site (Word p) (Place b) w s = grows_self s
 divide_grows to site (Word p) (Cell y) w s = grows_self s

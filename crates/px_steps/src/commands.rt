@@ -54,9 +54,7 @@ pub fn command_act(
         Command::Call { proc, site, .. } => mark_alone(alloc, state, MarkKind::Enter(*proc), *site),
         Command::Return { from } => return_from(alloc, state, job.body.result, *from),
         Command::Stop { word, .. } => stop(alloc, state, *word),
-        Command::Divide { to, a, b, site } => {
-            divide(alloc, state, *to, *a, *b, *site, way)
-        }
+        Command::Divide { to, a, b, site } => { divide(alloc, state, *to, *a, *b, *site, way) }
     }
 }
 

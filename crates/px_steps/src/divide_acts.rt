@@ -1,4 +1,4 @@
-ghost use Rattle.std.specs.Prelude.{◌≡◌, Some, None, [], ◌∷◌, IfOk};
+ghost use Rattle.std.specs.Prelude.{◌≡◌, ◌+◌, Some, None, [], ◌∷◌, length, option_to_list, IfOk};
 ghost use Rattle.px_base.specs.declared.trace.Kind.TheVariants.{DivisionByZero};
 ghost use Rattle.px_base.specs.declared.trace.Site.{Site};
 ghost use Rattle.px_terms.specs.declared.conjuncts.Conj.TheVariants as conjunct;
@@ -20,7 +20,7 @@ use px_entry::Exit;
 use px_match::{Growth, cut, keep_short, limit_passed, word_of};
 use px_terms::{Conj, Content, NoMemory, Poly, quotient};
 use px_ways::{
-    add_conjunct, begin, count_added, lacks_quotient, set_slot, take_quotient, unless_there,
+    add_conjunct, begin, lacks_quotient, set_slot, take_quotient, unless_there,
 };
 use std::alloc::Global;
 
@@ -38,7 +38,22 @@ pub(crate) fn divide(
 {
     let a = operand_of(alloc, &state, a)?;
     let b = operand_of(alloc, &state, b)?;
-    match (&a, &b) {
+    divide_contents(alloc, state, to, &a, &b, site, way)
+}
+
+// The same of contents.
+fn divide_contents(
+    alloc: Global,
+    state: State,
+    to: u32,
+    a: &Content,
+    b: &Content,
+    site: Site,
+    way: Way,
+) -> Result<StepOutcome<State>, NoMemory>
+    ensures { IfOk result (λ r. r ≡ led_of state (commands.divide_done to site a.now b.now way (begun state))) }
+{
+    match (a, b) {
         (Content::Word(p), Content::Word(q)) => {
             divide_words(alloc, state, to, p, q, site, way)
         }
@@ -65,16 +80,28 @@ fn divide_words(
     }
 }
 
-// What is divided by is assumed to be 0.
+// What is divided by is 0.
 fn by_zero(
     alloc: Global,
-    mut state: State,
+    state: State,
     q: &Poly,
     site: Site,
 ) -> Result<StepOutcome<State>, NoMemory>
     ensures { IfOk result (λ r. r ≡ led_of state (record (fails DivisionByZero site (assumed (conjunct.Equal q.now) (begun state))) { terms = q.now ∷ [] })) }
 {
     keep_short(q);
+    fail(alloc, state, q, site)
+}
+
+// The same, where no polynomial is too long.
+fn fail(
+    alloc: Global,
+    mut state: State,
+    q: &Poly,
+    site: Site,
+) -> Result<StepOutcome<State>, NoMemory>
+    ensures { IfOk result (λ r. r ≡ led_of state (fails DivisionByZero site (assumed (conjunct.Equal q.now) (begun state)))) }
+{
     let added = unless_there(&state, Conj::Equal(q.copy()?));
     let growth = assuming(0, &added);
     match limit_passed(&state, &growth) {
@@ -87,7 +114,7 @@ fn by_zero(
     }
 }
 
-// What is divided by is assumed not to be 0.
+// What is divided by isn't 0.
 fn by_other(
     alloc: Global,
     state: State,
@@ -158,10 +185,12 @@ fn make_quotient(
 ) -> Result<StepOutcome<State>, NoMemory>
     ensures { IfOk result (λ r. r ≡ led_of state (on (commands.quotient_by to p.now q.now None (assumed (conjunct.Unequal q.now) (begun state))))) }
 {
+    keep_short(p);
+    keep_short(q);
     let other = unless_there(&state, Conj::Unequal(q.copy()?));
     let lacking = lacks_quotient(&state, p, q);
     let growth = Growth {
-        conjuncts: count_added(&other) + count_one(lacking),
+        conjuncts: count_both(&other, lacking),
         variables: 1,
         ..COMMAND
     };
@@ -174,8 +203,13 @@ fn make_quotient(
     }
 }
 
-fn count_one(lacking: bool) -> usize
-    ensures { result ≡ ones lacking }
+// How many conjuncts are added: one where there is one, and one more where that is lacking.
+fn count_both(added: &Option<Conj>, lacking: bool) -> usize
+    ensures { result ≡ length (option_to_list added.now) + ones lacking }
 {
-    if lacking { 1 } else { 0 }
+    match (added, lacking) {
+        (Some(_), true) => 2,
+        (None, false) => 0,
+        _ => 1,
+    }
 }

@@ -89,7 +89,7 @@ fn is_quotient(conjunct: &Conj, x: usize, p: &Poly, q: &Poly) -> bool
     ensures { result ≡ same_conjunct (quotient_bound x p.now q.now) conjunct.now }
 {
     match conjunct {
-        Conj::Quotient(y, r, s) => x == y.0 as usize && is_same(p, r) && is_same(q, s),
+        Conj::Quotient(y, r, s) => x == y.0 as usize && (is_same(p, r) && is_same(q, s)),
         _ => false,
     }
 }

@@ -18,8 +18,8 @@ ghost use Rattle.px_match.specs.Operated.{IsCompared};
 ghost use Rattle.px_ways.specs.Ways.{or_unwritten, test_listed};
 
 use crate::contents::{is_word, is_written, operand_fits, slot_content};
-use crate::meetings::cells_of;
 use crate::divisions::divide_ways;
+use crate::meetings::cells_of;
 use crate::pointers::{access_ways, accessed, put_way};
 use px_base::FieldId;
 use px_callgraph::{Job, State, Way};

@@ -41,6 +41,22 @@ returns-clause-limits c = record {
   stop_too_far = refl;
 }
 
+pub returns-clause-divisions : goal.returns-clause-divisions
+unfolding ways act alternatives
+returns-clause-divisions c = record {
+  by_variable = refl;
+  stands = refl;
+  of_variable = refl;
+  never = refl;
+  constant_by_zero = refl;
+  constants = refl;
+  least = refl;
+  not_words = refl;
+  unwritten = refl;
+  conjunct_too_many = refl;
+  steps = refl;
+}
+
 pub returns-clause-blocks : goal.returns-clause-blocks
 unfolding ways act alternatives
 returns-clause-blocks c = record {
