@@ -1,5 +1,5 @@
 -- What the machine makes of values, a path makes of the contents that they are.
-use Rattle.std.proofs.Common.{◌≡◌, true, ◌&&◌, Option, None, Some, List, pos, refl, sym, ap, ◌∙◌, subst, subst₂, inl, inr, arith}
+use Rattle.std.proofs.Common.{◌≡◌, true, ◌&&◌, Option, Some, List, pos, refl, sym, ap, ◌∙◌, subst, subst₂, inl, inr, arith}
 use Rattle.std.specs.Prelude.{ℤ}
 use Rattle.std.proofs.lemmas.Bool.{and_from}
 use Rattle.std.proofs.lemmas.Option.{same_Some}

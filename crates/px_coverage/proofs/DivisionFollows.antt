@@ -1,18 +1,16 @@
 -- Each step of a division is that of a listed way: by 0 it fails, and else a new variable is the quotient, unless both
 -- words are constants.
-use Rattle.std.proofs.Common.{◌≡◌, ◌≢◌, ◌⊎◌, ℕ, ◌%◌, ◌^◌, ◌<◌, Bool, true, false, ◌&&◌, ◌||◌, Option, Some, None, List, [], ◌∷◌, ◌++◌, length, slice_set, refl, sym, ap, ap₂, ◌∙◌, subst, subst₂, inl, inr, arith}
+use Rattle.std.proofs.Common.{◌≡◌, ◌≢◌, ℕ, ◌%◌, ◌^◌, ◌<◌, Bool, true, false, ◌&&◌, ◌||◌, Option, Some, None, List, [], ◌∷◌, ◌++◌, length, slice_set, refl, sym, ap, ◌∙◌, subst, subst₂, inl, inr, arith}
 use Rattle.std.specs.Prelude.{ℤ, FitsSigned, int_div}
 use Rattle.std.specs.Int.{w32, int_wrap}
 use Rattle.std.proofs.lemmas.Bool.{and_from, or_right, cases_eq}
 use Rattle.std.proofs.lemmas.Int.{SFits-int_wrap}
-use Rattle.std.proofs.lemmas.Option.{same_Some}
 use Rattle.px_base.specs.declared.trace.Site.{Site}
-use Rattle.px_base.specs.declared.trace.Kind.TheVariants.{DivisionByZero}
-use Rattle.px_terms.specs.Words.{word, signed, word_quotient, IsQuotient}
+use Rattle.px_terms.specs.Words.{word, signed, IsQuotient}
 use Rattle.px_terms.specs.Polynomials.{Polynomial}
 use Rattle.px_terms.specs.Substitutions.{variable}
 use Rattle.px_terms.specs.Valuations.{Valuation, number_of, numbers_of, IsWord, HasType, Fits}
-use Rattle.px_terms.specs.Conjuncts.{word_of, HasWords, IsTrueUnder}
+use Rattle.px_terms.specs.Conjuncts.{word_of, IsTrueUnder}
 use Rattle.px_terms.specs.declared.types.Value.{Value}
 use Rattle.px_terms.specs.declared.types.Value.TheVariants as value
 use Rattle.px_terms.specs.declared.types.ValueType.TheVariants.{Int}
@@ -21,11 +19,10 @@ use Rattle.px_terms.specs.declared.variables.VarInfo.{VarInfo}
 use Rattle.px_terms.specs.declared.variables.Sort.TheVariants as sort
 use Rattle.px_terms.specs.declared.conjuncts.Content.{Content}
 use Rattle.px_terms.specs.declared.conjuncts.Content.TheVariants.{Word, Cell}
-use Rattle.px_terms.specs.declared.conjuncts.Conj.{Conj}
 use Rattle.px_terms.specs.declared.conjuncts.Conj.TheVariants as conjunct
 use Rattle.px_terms.proofs.WordLaws.{words_are_signed}
 use Rattle.px_core.specs.declared.command.Operand.{Operand}
-use Rattle.px_core.specs.CommandTree.{CommandTree, divide}
+use Rattle.px_core.specs.CommandTree.{divide}
 use Rattle.px_core.specs.Control.{Item, Act}
 use Rattle.px_core.specs.Constants.{IsInRange}
 use Rattle.px_entry.specs.Sorts.{is_int_type, is_int_polynomial, is_long}
@@ -41,16 +38,15 @@ use Rattle.px_callgraph.specs.States.{operand_content, number, assumed, info}
 use Rattle.px_callgraph.specs.Accesses.{listed_if}
 use Rattle.px_callgraph.specs.Commands.{constant_quotient, quotient_by, word_ways, divide_ways, words_divided, divide_done, command_ways, act_done}
 use Rattle.px_meaning.specs.Heaps.{HeapMap, join}
-use Rattle.px_meaning.specs.Operations.{operand_value, wrapped, on_words, quotient}
-use Rattle.px_meaning.specs.Calls.{error, Failed}
+use Rattle.px_meaning.specs.Operations.{operand_value, on_words, quotient}
 use Rattle.px_meaning.specs.Events.{mark_of}
-use Rattle.px_meaning.specs.Steps.{Goes, Ends, divides, command}
+use Rattle.px_meaning.specs.Steps.{Goes, divides, command}
 use Rattle.px_meaning.specs.CoreCalls.{CoreProgram}
 use Rattle.px_meaning.specs.CoreTypes.{SlotTypes}
 use Rattle.px_meaning.specs.Triples.{heap_of}
 use Rattle.px_meaning.proofs.Taken.{some_to}
 use Rattle.px_soundness.proofs.WellFormed.{Good, WellTyped, CompleteAt}
-use Rattle.px_soundness.proofs.Truths.{HasForm, constant_word}
+use Rattle.px_soundness.proofs.Truths.{constant_word}
 use Rattle.px_soundness.proofs.WellTyped.{grown_by}
 use Rattle.px_soundness.proofs.Contents.{set_is, operand_is, number_is, variable_is_content}
 use Rattle.px_soundness.proofs.PlainSteps.{operand_good}
@@ -68,9 +64,6 @@ use Rattle.px_coverage.proofs.PlainFollows.{in_if}
 use Rattle.px_coverage.proofs.ReadFollows as reads
 use Rattle.px_coverage.proofs.MakeFollows as makes
 use Rattle.px_callgraph.proofs.SortLemmas.{variable_next}
-
-none_some : (u : Value) → None ≡ Some u → ⊥
-none_some u e = cc
 
 word_small : (n : ℕ) → n < 2 ^ 32 → n % 2 ^ 32 ≡ n
 word_small n l = omega arith

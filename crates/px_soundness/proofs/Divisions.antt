@@ -142,7 +142,7 @@ module _ (j : JobTree) (types : List BlockType) (calls : ProcedureCalls Mark) (s
           (sound_plain C (record s { pure = assume s.vars s.pure (conjunct.Equal q) }) s.slots s.trace s.loops s.steps k (ends (exit.Error DivisionByZero site) None) (λ v further h K l. l))
           (λ v further K h says l. reaches v (join (heap_of v s.atoms) further) K None (no_quotient (signed (word_of v p)) (word_of v q) says) l)
 
-      s1 : State
+      abbrev s1 : State
       s1 = record s { pure = assume s.vars s.pure (conjunct.Unequal q) }
 
       -- a state that has the quotient in the slot, where the word that is divided by isn't 0
