@@ -180,6 +180,13 @@ pub fn is_open(vars: &[VarInfo], c: &Conj) -> bool
     is_well_sorted(vars, c) && decided(vars, c) != Some(false)
 }
 
+// Whether a polynomial isn't 0, if it has no variables.
+fn is_other(p: &Poly) -> Option<bool>
+    ensures { result ≡ spec.decided [] (Unequal p.now) }
+{
+    negated(is_zero(p))
+}
+
 /// Whether that a polynomial is 0 may be assumed. Takes no memory.
 pub fn may_be_zero(vars: &[VarInfo], p: &Poly) -> bool
     ensures { result ≡ spec.is_open vars.now (Equal p.now) }
@@ -193,7 +200,7 @@ pub fn may_be_other(vars: &[VarInfo], p: &Poly) -> bool
     ensures { result ≡ spec.is_open vars.now (Unequal p.now) }
 {
     keep_short(p);
-    is_int_polynomial(vars, p) && negated(is_zero(p)) != Some(false)
+    is_int_polynomial(vars, p) && is_other(p) != Some(false)
 }
 
 // Whether both are the same conjunct.

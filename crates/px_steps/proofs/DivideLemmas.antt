@@ -105,7 +105,6 @@ module _ (s : State) (to : ℕ) (p q : Polynomial) (other : Option Conj) (lackin
     (o : assume s.vars s.pure (Unequal q) ≡ s.pure ++ option_to_list other)
     (l : lacking ≡ not (list_any (same_conjunct (quotient_bound (length s.vars) p q)) s.pure))
     (e : is_long p ≡ false) (h : is_long q ≡ false) where
-
   pub made_grows : (n : ℕ) → n ≡ length (option_to_list other) + ones lacking → Grows s (dividing n) (on (quotient_made s to p q))
   made_grows n k = record {
     marks = none (length s.trace);

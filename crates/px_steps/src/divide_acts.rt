@@ -1,4 +1,4 @@
-ghost use Rattle.std.specs.Prelude.{◌≡◌, ◌+◌, Some, None, [], ◌∷◌, length, option_to_list, IfOk};
+ghost use Rattle.std.specs.Prelude.{◌≡◌, ◌+◌, ◌++◌, Some, None, [], ◌∷◌, length, option_to_list, IfOk};
 ghost use Rattle.px_base.specs.declared.trace.Kind.TheVariants.{DivisionByZero};
 ghost use Rattle.px_base.specs.declared.trace.Site.{Site};
 ghost use Rattle.px_terms.specs.declared.conjuncts.Conj.TheVariants as conjunct;
@@ -19,9 +19,7 @@ use px_core::Operand;
 use px_entry::Exit;
 use px_match::{Growth, cut, keep_short, limit_passed, word_of};
 use px_terms::{Conj, Content, NoMemory, Poly, quotient};
-use px_ways::{
-    add_conjunct, begin, lacks_quotient, set_slot, take_quotient, unless_there,
-};
+use px_ways::{add_conjunct, begin, lacks_quotient, set_slot, take_quotient, unless_there};
 use std::alloc::Global;
 
 /// A slot gets a quotient, or what is divided by is 0.
@@ -54,9 +52,7 @@ fn divide_contents(
     ensures { IfOk result (λ r. r ≡ led_of state (commands.divide_done to site a.now b.now way (begun state))) }
 {
     match (a, b) {
-        (Content::Word(p), Content::Word(q)) => {
-            divide_words(alloc, state, to, p, q, site, way)
-        }
+        (Content::Word(p), Content::Word(q)) => { divide_words(alloc, state, to, p, q, site, way) }
         _ => begin_alone(alloc, state),
     }
 }
@@ -78,6 +74,19 @@ fn divide_words(
         Way::Divided => by_other(alloc, state, to, p, q),
         _ => begin_alone(alloc, state),
     }
+}
+
+// What is added where it is assumed that a word is 0, and where it is assumed that it isn't.
+fn unless_zero(state: &State, q: &Poly) -> Result<Option<Conj>, NoMemory>
+    ensures { IfOk result (λ o. decided.assume state.now.vars state.now.pure (conjunct.Equal q.now) ≡ state.now.pure ++ option_to_list o) }
+{
+    Ok(unless_there(state, Conj::Equal(q.copy()?)))
+}
+
+fn unless_other(state: &State, q: &Poly) -> Result<Option<Conj>, NoMemory>
+    ensures { IfOk result (λ o. decided.assume state.now.vars state.now.pure (conjunct.Unequal q.now) ≡ state.now.pure ++ option_to_list o) }
+{
+    Ok(unless_there(state, Conj::Unequal(q.copy()?)))
 }
 
 // What is divided by is 0.
@@ -102,7 +111,7 @@ fn fail(
 ) -> Result<StepOutcome<State>, NoMemory>
     ensures { IfOk result (λ r. r ≡ led_of state (fails DivisionByZero site (assumed (conjunct.Equal q.now) (begun state)))) }
 {
-    let added = unless_there(&state, Conj::Equal(q.copy()?));
+    let added = unless_zero(&state, q)?;
     let growth = assuming(0, &added);
     match limit_passed(&state, &growth) {
         Some(kind) => cut(alloc, state, kind),
@@ -162,7 +171,7 @@ fn give_quotient(
 ) -> Result<StepOutcome<State>, NoMemory>
     ensures { IfOk result (λ r. r ≡ led_of state (on (states.set_slot to content (assumed (conjunct.Unequal q.now) (begun state))))) }
 {
-    let added = unless_there(&state, Conj::Unequal(q.copy()?));
+    let added = unless_other(&state, q)?;
     let growth = assuming(0, &added);
     match limit_passed(&state, &growth) {
         Some(passed) => cut(alloc, state, passed),
@@ -187,7 +196,7 @@ fn make_quotient(
 {
     keep_short(p);
     keep_short(q);
-    let other = unless_there(&state, Conj::Unequal(q.copy()?));
+    let other = unless_other(&state, q)?;
     let lacking = lacks_quotient(&state, p, q);
     let growth = Growth {
         conjuncts: count_both(&other, lacking),
@@ -197,7 +206,7 @@ fn make_quotient(
     match limit_passed(&state, &growth) {
         Some(passed) => cut(alloc, state, passed),
         None => {
-            take_quotient(alloc, &mut state, to, p.copy()?, q.copy()?, other, lacking)?;
+            take_quotient(alloc, &mut state, to, p, q, other, lacking)?;
             Ok(StepOutcome::Next(state))
         }
     }

@@ -1,8 +1,9 @@
-ghost use Rattle.std.specs.Prelude.{◌≡◌, ◌<◌, ◌≤◌, ◌||◌, not, length, nat_eq, option_to_list, IfOk, OnOk};
+ghost use Rattle.std.specs.Prelude.{◌≡◌, ◌<◌, ◌≤◌, ◌||◌, ◌&&◌, not, length, nat_eq, option_to_list, IfOk, OnOk};
 ghost use Rattle.std.specs.List.{list_any};
 ghost use Rattle.px_base.specs.Bounds.{most_steps, most_variables};
 ghost use Rattle.px_terms.specs.declared.conjuncts.Conj.TheVariants as conjunct;
 ghost use Rattle.px_entry.specs.Sorts as sorts;
+ghost use Rattle.px_entry.specs.Decided.{is_open};
 ghost use Rattle.px_entry.specs.Equality.{same_polynomial, same_conjunct};
 ghost use Rattle.px_callgraph.specs.States.{operand_content};
 ghost use Rattle.px_callgraph.specs.Commands as spec;
@@ -57,9 +58,15 @@ fn word_ways(alloc: Global, vars: &[VarInfo], p: &Poly, q: &Poly) -> Result<Vec<
 {
     let mut found = Vec::new(alloc);
     put_way(&mut found, may_be_zero(vars, q), Way::ByZero)?;
-    let is_divided = may_be_other(vars, q) && is_word(vars, p);
-    put_way(&mut found, is_divided, Way::Divided)?;
+    put_way(&mut found, may_divide(vars, p, q), Way::Divided)?;
     Ok(found)
+}
+
+// Whether a word may be divided by another.
+fn may_divide(vars: &[VarInfo], p: &Poly, q: &Poly) -> bool
+    ensures { result ≡ (is_open vars.now (conjunct.Unequal q.now) && (sorts.is_long p.now || sorts.is_int_polynomial vars.now p.now)) }
+{
+    may_be_other(vars, q) && is_word(vars, p)
 }
 
 // Whether what is divided is a word, as far as it is asked.
@@ -107,14 +114,14 @@ pub fn take_quotient(
     alloc: Global,
     state: &mut State,
     to: u32,
-    p: Poly,
-    q: Poly,
+    p: &Poly,
+    q: &Poly,
     other: Option<Conj>,
     lacking: bool,
 ) -> Result<(), NoMemory>
     requires steps { state.old.steps < most_steps }
     requires few { length state.old.vars ≤ most_variables }
-    ensures { OnOk result (state.new ≡ with_quotient to p q (option_to_list other) lacking state.old) }
+    ensures { OnOk result (state.new ≡ with_quotient to p.now q.now (option_to_list other) lacking state.old) }
 {
     let x = Var(state.vars.len() as u32);
     begin(state);
@@ -132,11 +139,11 @@ pub fn take_quotient(
 }
 
 // That a variable is the quotient of these is assumed, where it is to be added.
-fn add_quotient(state: &mut State, x: Var, p: Poly, q: Poly, added: bool) -> Result<(), NoMemory>
-    ensures { OnOk result (state.new ≡ with_conjuncts (kept_if added (quotient_bound x.0 p q)) state.old) }
+fn add_quotient(state: &mut State, x: Var, p: &Poly, q: &Poly, added: bool) -> Result<(), NoMemory>
+    ensures { OnOk result (state.new ≡ with_conjuncts (kept_if added (quotient_bound x.0 p.now q.now)) state.old) }
 {
     if added {
-        state.pure.push(Conj::Quotient(x, p, q))?;
+        state.pure.push(Conj::Quotient(x, p.copy()?, q.copy()?))?;
     }
     Ok(())
 }

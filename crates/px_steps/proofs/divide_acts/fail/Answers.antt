@@ -14,19 +14,19 @@ pub returns-in-Some : goal.returns-in-Some
 returns-in-Some c =
     let s = c.args.state in
     let q = c.args.q.now in
-    let n = length (option_to_list c.unless_there-added.result) in
+    let n = length (option_to_list c.in_ok-added.added) in
     let u = assumed (Equal q) (begun s) in
     let exit = Error DivisionByZero c.args.site in
-    let g = assumed_grows s u (Equal q) c.unless_there-added.result 0 n [] (ends exit None) c.unless_there-added.ensures refl (none (length s.trace)) refl refl refl refl refl in
+    let g = assumed_grows s u (Equal q) c.in_ok-added.added 0 n [] (ends exit None) c.in_ok-added.ensures refl (none (length s.trace)) refl refl refl refl refl in
     cut_end_led c.cut.result s (assuming 0 n) u exit None c.in-Some.kind (c.in-Some.ensures.first ∙ ap (passes_grown s) c.assuming-growth.ensures) g c.cut.ensures
 
 pub returns-in_ok-add_conjunct-in-None : goal.returns-in_ok-add_conjunct-in-None
 returns-in_ok-add_conjunct-in-None c =
     let s = c.args.state in
     let q = c.args.q.now in
-    let n = length (option_to_list c.unless_there-added.result) in
+    let n = length (option_to_list c.in_ok-added.added) in
     let u = assumed (Equal q) (begun s) in
     let exit = Error DivisionByZero c.args.site in
-    let g = assumed_grows s u (Equal q) c.unless_there-added.result 0 n [] (ends exit None) c.unless_there-added.ensures refl (none (length s.trace)) refl refl refl refl refl in
-    let e = assumed_by (begun s) (Equal q) c.unless_there-added.result c.unless_there-added.ensures in
+    let g = assumed_grows s u (Equal q) c.in_ok-added.added 0 n [] (ends exit None) c.in_ok-added.ensures refl (none (length s.trace)) refl refl refl refl refl in
+    let e = assumed_by (begun s) (Equal q) c.in_ok-added.added c.in_ok-added.ensures in
     ends_led s (assuming 0 n) c.add_conjunct.new.state u exit None (search (rules, e)) (c.in-None.ensures.first ∙ ap (passes_grown s) c.assuming-growth.ensures) g

@@ -12,17 +12,17 @@ pub returns-in-Some : goal.returns-in-Some
 returns-in-Some c =
     let a = c.args in
     let s = a.state in
-    let n = length (option_to_list c.unless_there-added.result) in
+    let n = length (option_to_list c.in_ok-added.added) in
     let u = set_slot a.to a.content (assumed (Unequal a.q.now) (begun s)) in
-    let g = assumed_grows s u (Unequal a.q.now) c.unless_there-added.result 0 n [] goes c.unless_there-added.ensures refl (none (length s.trace)) refl refl refl refl refl in
+    let g = assumed_grows s u (Unequal a.q.now) c.in_ok-added.added 0 n [] goes c.in_ok-added.ensures refl (none (length s.trace)) refl refl refl refl refl in
     cut_led c.cut.result s (assuming 0 n) u [] c.in-Some.passed (c.in-Some.ensures.first ∙ ap (passes_grown s) c.assuming-growth.ensures) g c.cut.ensures
 
 pub returns-in_ok-add_conjunct-in-None : goal.returns-in_ok-add_conjunct-in-None
 returns-in_ok-add_conjunct-in-None c =
     let a = c.args in
     let s = a.state in
-    let n = length (option_to_list c.unless_there-added.result) in
+    let n = length (option_to_list c.in_ok-added.added) in
     let u = set_slot a.to a.content (assumed (Unequal a.q.now) (begun s)) in
-    let g = assumed_grows s u (Unequal a.q.now) c.unless_there-added.result 0 n [] goes c.unless_there-added.ensures refl (none (length s.trace)) refl refl refl refl refl in
-    let e = assumed_by (begun s) (Unequal a.q.now) c.unless_there-added.result c.unless_there-added.ensures in
+    let g = assumed_grows s u (Unequal a.q.now) c.in_ok-added.added 0 n [] goes c.in_ok-added.ensures refl (none (length s.trace)) refl refl refl refl refl in
+    let e = assumed_by (begun s) (Unequal a.q.now) c.in_ok-added.added c.in_ok-added.ensures in
     next_led s (assuming 0 n) c.set_slot.new.state u [] (search (rules, e)) (c.in-None.ensures.first ∙ ap (passes_grown s) c.assuming-growth.ensures) g
