@@ -1,4 +1,5 @@
 use Rattle.std.proofs.Common.{refl}
+use Rattle.std.specs.Int.{int_wrap}
 use Rattle.px_callgraph.specs.Alternatives.{ways, act, alternatives}
 use Rattle.px_callgraph.proofs.laws.worked_alternatives.Goals as goal
 
@@ -42,7 +43,7 @@ returns-clause-limits c = record {
 }
 
 pub returns-clause-divisions : goal.returns-clause-divisions
-unfolding ways act alternatives
+unfolding ways act alternatives int_wrap
 returns-clause-divisions c = record {
   by_variable = refl;
   stands = refl;
