@@ -4,26 +4,23 @@ use Rattle.std.specs.Prelude.{ℤ, IsSomeAnd, int_div, if◌then◌else◌}
 use Rattle.std.specs.Int.{w32, int_wrap}
 use Rattle.std.specs.Ordering.{int_eq}
 use Rattle.std.proofs.lemmas.Int.{SFits-int_wrap}
-use Rattle.std.proofs.lemmas.Bool.{and_parts, eqb-true}
+use Rattle.std.proofs.lemmas.Bool.{and_parts}
 use Rattle.std.proofs.lemmas.Option.{same_Some}
 use Rattle.px_base.specs.declared.trace.Site.{Site}
 use Rattle.px_base.specs.declared.trace.Mark.{Mark}
 use Rattle.px_base.specs.declared.trace.Kind.TheVariants.{DivisionByZero}
 use Rattle.px_terms.specs.Words.{word, signed, word_quotient, IsQuotient}
-use Rattle.px_terms.specs.Terms.{Term}
 use Rattle.px_terms.specs.Polynomials.{Polynomial, IsPolynomial}
 use Rattle.px_terms.specs.Substitutions.{variable}
-use Rattle.px_terms.specs.Valuations.{Valuation, numbers_of, Fits}
+use Rattle.px_terms.specs.Valuations.{Valuation, numbers_of}
 use Rattle.px_terms.specs.Conjuncts.{word_of}
 use Rattle.px_terms.specs.declared.types.Value.{Value}
 use Rattle.px_terms.specs.declared.types.Value.TheVariants as value
 use Rattle.px_terms.specs.declared.types.BlockType.{BlockType}
 use Rattle.px_terms.specs.declared.types.ValueType.TheVariants.{Int}
-use Rattle.px_terms.specs.declared.variables.VarInfo.{VarInfo}
 use Rattle.px_terms.specs.declared.variables.Sort.TheVariants as sort
 use Rattle.px_terms.specs.declared.conjuncts.Content.{Content}
 use Rattle.px_terms.specs.declared.conjuncts.Content.TheVariants.{Unwritten, Word, Place, Cell}
-use Rattle.px_terms.specs.declared.conjuncts.Conj.{Conj}
 use Rattle.px_terms.specs.declared.conjuncts.Conj.TheVariants as conjunct
 use Rattle.px_terms.proofs.WordLaws.{words_are_signed}
 use Rattle.px_core.specs.declared.command.Operand.{Operand}
@@ -32,14 +29,14 @@ use Rattle.px_core.specs.Control.{Item}
 use Rattle.px_core.specs.Constants.{IsInRange}
 use Rattle.px_entry.specs.Sorts.{is_long, is_int_polynomial}
 use Rattle.px_entry.specs.Decided as entry
-use Rattle.px_entry.specs.Decided.{is_true, is_open, assume, decided}
+use Rattle.px_entry.specs.Decided.{is_open, assume}
 use Rattle.px_entry.specs.Standing.{content_value, contents_value}
 use Rattle.px_entry.specs.declared.entries.Exit.TheVariants as exit
 use Rattle.px_callgraph.specs.declared.states.State.{State}
 use Rattle.px_callgraph.specs.declared.states.Way.{Way}
 use Rattle.px_callgraph.specs.declared.states.Way.TheVariants as way
 use Rattle.px_callgraph.specs.JobTree.{JobTree}
-use Rattle.px_callgraph.specs.States.{goes, ends, Done, on, number, operand_content, assumed, info}
+use Rattle.px_callgraph.specs.States.{goes, ends, Done, on, operand_content, assumed, info}
 use Rattle.px_callgraph.specs.Accesses.{listed_if}
 use Rattle.px_callgraph.specs.Commands.{constant_quotient, quotient_by, word_ways, divide_ways, words_divided, divide_done}
 use Rattle.px_meaning.specs.Heaps.{HeapMap, join}
@@ -49,7 +46,7 @@ use Rattle.px_meaning.specs.Steps.{Goes, Ends, ProcedureCalls, divides}
 use Rattle.px_meaning.specs.Triples.{heap_of}
 use Rattle.px_soundness.proofs.WellFormed.{Good, WellTyped}
 use Rattle.px_soundness.proofs.AtomHeaps.{absent}
-use Rattle.px_soundness.proofs.Truths.{Says, constant_word, decided_says}
+use Rattle.px_soundness.proofs.Truths.{constant_word, decided_says}
 use Rattle.px_soundness.proofs.Contents.{number_is, set_is, operand_is}
 use Rattle.px_soundness.proofs.Sound.{Each1, each1_append, each1_if, WholeGoal, Can, Sound, sound_plain, sound_assumed, sound_variables}
 use Rattle.px_soundness.proofs.PlainSteps.{Does, Leads1, operand_good}

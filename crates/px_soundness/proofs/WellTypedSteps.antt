@@ -54,7 +54,7 @@ use Rattle.px_callgraph.specs.JobTree.{JobTree}
 use Rattle.px_callgraph.specs.States.{on, content_at, operand_content, number, set_slot, marked, assumed, info, with_variables}
 use Rattle.px_callgraph.specs.Operations.{operation, made_terms, condition, contrary}
 use Rattle.px_callgraph.specs.Accesses.{listed_if, atom_ways, missing_ways, access_ways, accessed, cell_infos, block_cells, cell_contents, atom_of, meet_live, meet_freed, Access, load_access, store_access, free_access, use_state, use_atom, reach_atom, access_done}
-use Rattle.px_callgraph.specs.Commands.{read_ways, read_cell, read_done, open_if, test_done, outcome_of, last_loop, leaving, malloc_ways, malloc_done, input_done, constant_quotient, quotient_by, word_ways, divide_ways, words_divided, divide_done, field_type, returned, return_done, through_place, pointer_ways, is_argument, argument_contents, terms_of, assign_done, command_ways, act_done}
+use Rattle.px_callgraph.specs.Commands.{read_ways, read_cell, read_done, open_if, test_done, outcome_of, last_loop, leaving, malloc_ways, malloc_done, input_done, constant_quotient, quotient_by, divide_ways, words_divided, divide_done, field_type, returned, return_done, through_place, pointer_ways, is_argument, argument_contents, terms_of, assign_done, command_ways, act_done}
 use Rattle.px_soundness.proofs.WellFormed.{is_usable, UsableWord, Good, GoodAtom, WellTyped}
 use Rattle.px_soundness.proofs.AtomHeaps.{absent}
 use Rattle.px_soundness.proofs.Truths.{variable_is}
