@@ -21,7 +21,7 @@ pub use claims::{Claimed, claim_through, is_claim_open};
 pub use conditions::{Compared, condition, contrary};
 pub use contents::{content_through, place_through, state_through};
 pub use decisions::{is_int_polynomial, is_open, is_well_sorted, stands};
-pub use matching::cases;
+pub use matching::{cases, is_match};
 pub use operations::{Operated, operand_content, operation};
 pub use path_limits::{Growth, NOTHING, cut, limit_of_long, limit_passed};
 pub use substitution::{count_new, put_cells, put_from, put_new, put_new_variables};

@@ -3,3 +3,4 @@ pub mod LoopLemmas
 pub mod AtomLemmas
 pub mod BlockLemmas
 pub mod Additions
+pub mod ListedLemmas
