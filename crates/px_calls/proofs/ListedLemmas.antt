@@ -1,5 +1,5 @@
 -- Whether one way is among those at a place of a call.
-use Rattle.std.proofs.Common.{◌≡◌, ◌||◌, ◌&&◌, not, ℕ, zero, suc, ◌+◌, ◌<◌, ◌≤◌, Bool, true, false, nat_eq, nat_lt, List, [], ◌∷◌, ◌++◌, map, length, Option, Some, None, slice_get, refl, ap, ap₂, sym, ◌∙◌, arith}
+use Rattle.std.proofs.Common.{◌≡◌, ◌||◌, ◌&&◌, not, ℕ, zero, suc, ◌+◌, ◌<◌, ◌≤◌, Bool, true, false, nat_eq, nat_lt, List, [], ◌∷◌, ◌++◌, map, length, Option, Some, None, slice_get, refl, ap, ap₂, sym, subst, ◌∙◌, arith}
 use Rattle.std.specs.List.{list_any}
 use Rattle.std.proofs.lemmas.List.{map-append}
 use Rattle.std.proofs.Math.Bool.{or-false, and-false}
@@ -26,6 +26,10 @@ use Rattle.px_calls.specs.Listed.{is_choice, is_meeting}
 pub on_listed : (b : Bool) → b ≡ lists (listed_if b way.On) way.On
 on_listed true = refl
 on_listed false = refl
+
+-- where it is the one that is asked after, by what a call says of it
+pub on_asked : (b r : Bool) (name : Way) → name ≡ way.On → r ≡ b → r ≡ lists (listed_if b way.On) name
+on_asked b r name n e = subst (λ z. r ≡ lists (listed_if b way.On) z) (sym n) (e ∙ on_listed b)
 
 pub on_alone : (b : Bool) (name : Way) → (name ≡ way.On → ⊥) → false ≡ lists (listed_if b way.On) name
 on_alone b way.On n = absurd (n refl)
