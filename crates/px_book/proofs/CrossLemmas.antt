@@ -83,7 +83,7 @@ entry_send =
             (
               search (crosses, sendable) depth 60,
               (
-                search (crosses, sendable) depth 60,
+                search (crosses, sendable) depth 60 fits 20000,
                 (search (crosses, sendable) depth 60 fits 20000, (search (crosses, sendable) depth 60 fits 20000, (search (crosses, sendable) depth 60, tt))),
               ),
             ),

@@ -95,7 +95,7 @@ module _ (types : List BlockType) (parameters : List ValueType) (x : Entry)
   post_fits = (and_parts _ _ (and_parts _ _ (and_parts _ _ post_regular).0).0).1
 
   result_fits : is_result x.vars x.result ≡ true
-  result_fits = (and_parts _ _ (and_parts _ _ (and_parts _ _ regular).1).0).1
+  result_fits = (and_parts _ _ (and_parts _ _ (and_parts _ _ (and_parts _ _ regular).1).0).0).1
 
   -- ---- what a variable leads to
 
