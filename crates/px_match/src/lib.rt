@@ -24,7 +24,7 @@ pub use decisions::{
     is_int_polynomial, is_open, is_well_sorted, keep_short, may_be_other, may_be_zero, stands,
     word_of,
 };
-pub use matching::cases;
+pub use matching::{cases, is_match};
 pub use operations::{Operated, operand_content, operation};
 pub use path_limits::{Growth, NOTHING, cut, limit_of_long, limit_passed};
 pub use substitution::{count_new, put_cells, put_from, put_new, put_new_variables};

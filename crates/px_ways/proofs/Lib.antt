@@ -4,3 +4,4 @@ pub mod AtomLemmas
 pub mod BlockLemmas
 pub mod Additions
 pub mod DivisionLemmas
+pub mod ListedLemmas

@@ -63,7 +63,7 @@ fn word_ways(alloc: Global, vars: &[VarInfo], p: &Poly, q: &Poly) -> Result<Vec<
 }
 
 // Whether a word may be divided by another.
-fn may_divide(vars: &[VarInfo], p: &Poly, q: &Poly) -> bool
+pub(crate) fn may_divide(vars: &[VarInfo], p: &Poly, q: &Poly) -> bool
     ensures { result ≡ (is_open vars.now (conjunct.Unequal q.now) && (sorts.is_long p.now || sorts.is_int_polynomial vars.now p.now)) }
 {
     may_be_other(vars, q) && is_word(vars, p)
