@@ -1,0 +1,176 @@
+ghost use Rattle.std.specs.Prelude.{◌≡◌, ◌↔◌, ◌-◌, ◌≤◌, ◌++◌, true, false, length, drop, IsErrOf, OnErr, OnOk};
+ghost use Rattle.px_spelling.specs.declared.fault.WireFault.TheVariants as fault;
+ghost use Rattle.px_parts.specs.declared.place.Place.TheVariants.{Over};
+ghost use Rattle.px_parts.specs.declared.skim.Known.TheVariants.{Short, Whole};
+ghost use Rattle.px_parts.specs.Stream.{IsStuck};
+ghost use Rattle.px_parts.specs.Taking.{IsTakenOn};
+ghost use Rattle.px_parts.specs.Skims.{IsSkim, IsEnded};
+ghost use Rattle.px_parts.specs.Kept.{held_in, kept_after, IsQuiet, IsAnswer, IsSame};
+
+use crate::finding::find;
+use crate::skim::{Known, Skim};
+use crate::{Part, Place, Taken};
+use px_spelling::WireFault;
+use std::alloc::Global;
+
+/// What comes next, and the bytes from there that were taken.
+#[derive(Drop)]
+pub(crate) struct Unread {
+    pub(crate) place: Place,
+    /// Bytes that were taken. The first are of parts that were given.
+    pub(crate) held: Vec<u8>,
+    pub(crate) start: usize,
+    /// How many bytes of the message weren't taken.
+    pub(crate) left: u32,
+    pub(crate) skim: Skim,
+}
+
+/// Takes as much of a piece as is left, and looks for the next part. What comes next is read once when its first bytes are there,
+/// and again when all are.
+#[tactic(auto, using(crate::proofs::Answering::short_answer, crate::proofs::Answering::no_memory, crate::proofs::Skimming::skim_not_begun, crate::proofs::Holding::is_behind, crate::proofs::Holding::still_within, crate::proofs::Holding::how_many))]
+pub(crate) fn take_piece(
+    alloc: Global,
+    unread: &mut Unread,
+    piece: &[u8],
+) -> Result<Taken, WireFault>
+    requires within { unread.old.start ≤ length unread.old.held.items }
+    requires skim { IsSkim unread.old.place (held_in unread.old) unread.old.skim }
+    ensures within { unread.new.start ≤ length unread.new.held.items }
+    ensures skim { IsSkim unread.new.place (held_in unread.new) unread.new.skim }
+    ensures taken { IsTakenOn unread.old.place (held_in unread.old) unread.old.left piece.now result (kept_after result unread.new) }
+{
+    let count = piece.len().min(unread.left as usize);
+    hold(alloc, unread, &piece[..count])?;
+    if let Known::Short = look(unread) {
+        unread.left -= count as u32;
+        let behind = unread.held.len() - unread.start;
+        return answer(None, unread.place, behind, unread.left, false, count as u64);
+    }
+    match find(alloc, unread.place, &unread.held[unread.start..]) {
+        Ok(found) => {
+            let (part, place, rest) = found;
+            let behind = rest.len();
+            go_on(unread, place, behind, count);
+            let ended = part.is_none() && is_ended(alloc, unread);
+            answer(part, place, behind, unread.left, ended, count as u64)
+        }
+        Err(fault) => {
+            unread.held.truncate(unread.held.len() - count);
+            unread.skim.begun = false;
+            Err(fault)
+        }
+    }
+}
+
+// Puts bytes after those that are held. Those of parts that were given are let go.
+#[tactic(auto, using(crate::proofs::Holding::skim_same, crate::proofs::Holding::skim_held, crate::proofs::Holding::held_more))]
+fn hold(alloc: Global, unread: &mut Unread, bytes: &[u8]) -> Result<(), WireFault>
+    requires within { unread.old.start ≤ length unread.old.held.items }
+    requires skim { IsSkim unread.old.place (held_in unread.old) unread.old.skim }
+    ensures within { unread.new.start ≤ length unread.new.held.items }
+    ensures skim { IsSkim unread.new.place (held_in unread.new) unread.new.skim }
+    ensures place { unread.new.place ≡ unread.old.place }
+    ensures left { unread.new.left ≡ unread.old.left }
+    ensures held { OnOk result (held_in unread.new ≡ held_in unread.old ++ bytes.now) }
+    ensures same { OnErr result (held_in unread.new ≡ held_in unread.old) }
+    ensures memory { ¬ IsErrOf result fault.NotAMessage }
+{
+    if bytes.is_empty() {
+        return Ok(());
+    }
+    if unread.start > 0 {
+        unread.held = Vec::from_slice(alloc, &unread.held[unread.start..])?;
+        unread.start = 0;
+    }
+    unread.held.extend_from_slice(bytes)?;
+    Ok(())
+}
+
+// Passes over what is held of what comes next.
+fn look(unread: &mut Unread) -> Known
+    requires within { unread.old.start ≤ length unread.old.held.items }
+    ensures same { IsSame unread.old unread.new }
+    ensures skim { IsSkim unread.old.place (held_in unread.old) unread.old.skim → IsSkim unread.old.place (held_in unread.old) unread.new.skim }
+    ensures short { IsSkim unread.old.place (held_in unread.old) unread.old.skim → result ≡ Short → IsStuck unread.old.place (held_in unread.old) }
+    ensures whole { IsSkim unread.old.place (held_in unread.old) unread.old.skim → result ≡ Whole → IsEnded unread.old.place (held_in unread.old) }
+{
+    unread.skim.pass(&unread.held[unread.start..])
+}
+
+// Goes on to a place with so many bytes behind it, where so many more were taken.
+#[tactic(auto, using(crate::proofs::Skimming::skim_not_begun))]
+fn go_on(unread: &mut Unread, place: Place, behind: usize, count: usize)
+    requires behind { behind ≤ length unread.old.held.items }
+    requires left { count ≤ unread.old.left }
+    ensures within { unread.new.start ≤ length unread.new.held.items }
+    ensures skim { IsSkim unread.new.place (held_in unread.new) unread.new.skim }
+    ensures place { unread.new.place ≡ place }
+    ensures left { unread.new.left ≡ unread.old.left - count }
+    ensures held { held_in unread.new ≡ drop (length unread.old.held.items - behind) unread.old.held.items }
+{
+    unread.place = place;
+    unread.start = unread.held.len() - behind;
+    unread.left -= count as u32;
+    unread.skim.begun = false;
+}
+
+// Whether all bytes are there of what comes next, which isn't read yet. From now on they are passed over.
+fn is_ended(alloc: Global, unread: &mut Unread) -> bool
+    requires within { unread.old.start ≤ length unread.old.held.items }
+    ensures same { IsSame unread.old unread.new }
+    ensures skim { IsSkim unread.old.place (held_in unread.old) unread.new.skim }
+    ensures ended { result ≡ true → IsEnded unread.old.place (held_in unread.old) }
+{
+    unread.skim = Skim::begin(alloc, unread.place);
+    match look(unread) {
+        Known::Whole => true,
+        Known::Short | Known::Nothing => false,
+    }
+}
+
+// The answer, where so many bytes are behind what was found, and so many weren't taken. They are ended where none is missing of
+// what comes next.
+fn answer(
+    part: Option<Part>,
+    place: Place,
+    behind: usize,
+    left: u32,
+    ended: bool,
+    taken: u64,
+) -> Result<Taken, WireFault>
+    ensures { IsAnswer part place behind left ended taken result }
+{
+    match part {
+        Some(part) => Ok(Taken { part, taken }),
+        None => {
+            let part = quiet(place, behind, left, ended)?;
+            Ok(Taken { part, taken })
+        }
+    }
+}
+
+// Nothing yet, the end, or that there is none.
+fn quiet(place: Place, behind: usize, left: u32, ended: bool) -> Result<Part, WireFault>
+    ensures { IsQuiet place behind left ended result }
+{
+    if left > 0 {
+        if ended {
+            return Err(WireFault::NotAMessage);
+        }
+        return Ok(Part::Held);
+    }
+    if behind == 0 && is_over(place) {
+        Ok(Part::End)
+    } else {
+        Err(WireFault::NotAMessage)
+    }
+}
+
+fn is_over(place: Place) -> bool
+    ensures { result ≡ true ↔ place ≡ Over }
+{
+    match place {
+        Place::Over => true,
+        _ => false,
+    }
+}
