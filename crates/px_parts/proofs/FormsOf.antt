@@ -90,6 +90,7 @@ failure K.NullDereference site = fixed F.Failure (0 ∷ site_bytes site) refl re
 failure K.UseAfterFree site = fixed F.Failure (1 ∷ site_bytes site) refl refl
 failure K.DoubleFree site = fixed F.Failure (2 ∷ site_bytes site) refl refl
 failure K.UninitialisedRead site = fixed F.Failure (3 ∷ site_bytes site) refl refl
+failure K.DivisionByZero site = fixed F.Failure (4 ∷ site_bytes site) refl refl
 
 exit_form : (x : Exit) → IsOne F.Exit (exit_bytes x)
 exit_form X.Ok = fixed F.Exit (0 ∷ []) refl refl
