@@ -1,5 +1,6 @@
 -- What a step reads comes there, and where it reads nothing, nothing comes.
-use Rattle.std.proofs.Common.{◌≡◌, ◌≢◌, ℕ, zero, suc, ◌-◌, ◌≤◌, List, [], ◌∷◌, ◌++◌, Option, Some, None, true, refl, sym, ap, subst, ◌∙◌, arith}
+use Rattle.std.proofs.Common.{◌≡◌, ◌≢◌, ℕ, zero, suc, ◌-◌, ◌≤◌, List, [], ◌∷◌, ◌++◌, Option, Some, None, Result, Ok, Err, true, refl, sym, ap, subst, ◌∙◌, arith}
+use Rattle.std.specs.Prelude.{IsErrOf}
 use Rattle.px_entry.specs.declared.entries.Entry.{Entry}
 use Rattle.px_entry.specs.declared.tables.Gap.{Gap}
 use Rattle.px_entry.specs.declared.derivations.Derivation.{Derivation}
@@ -25,6 +26,17 @@ none_read : {Y : Type 0} (e : WireFault) (read : Option Y) → Fails e read → 
 none_read NotAMessage read fails is = fails
 none_read NoMemory read fails is = absurd cc
 
+abbrev fault_in : {A : Type 0} → Result A WireFault → WireFault
+fault_in (Ok x) = NoMemory
+fault_in (Err e) = e
+
+-- a fault that is handed on
+pub handed_on : {A : Type 0} (r : Result A WireFault) (e f : WireFault) → r ≡ Err f → f ≡ e → IsErrOf r NotAMessage → e ≡ NotAMessage
+handed_on r e f is same told = sym same ∙ ap fault_in (sym is ∙ told)
+
+one_less : (n : ℕ) → n ≡ suc n - 1
+one_less n = omega arith
+
 -- ---- the first part
 
 pub start_arrives : (x : Part) (q : Place) (bytes rest : List ℕ) → IsHead x → q ≡ after_head x → bytes ≡ part_bytes x ++ rest → Arrives Start bytes (Some x) q rest
@@ -44,7 +56,8 @@ entry_count_stuck e bytes fails is = stuck_entry_count bytes (none_read e (count
 pub entry_arrives : (left rows : ℕ) (e : Entry) (bytes rest : List ℕ) → left ≢ 0 → IsEntry e → entry_within any_types e ≡ true → bytes ≡ entry_bytes e ++ rest →
     Arrives (Entries left rows) bytes (Some (P.Entry e)) (Entries (left - 1) rows) rest
 entry_arrives zero rows e bytes rest some fits within is = absurd (some refl)
-entry_arrives (suc n) rows e bytes rest some fits within is = (entry_bytes e, entry n rows e (entry_bytes e) fits within refl, is)
+entry_arrives (suc n) rows e bytes rest some fits within is =
+    subst (λ k. Arrives (Entries (suc n) rows) bytes (Some (P.Entry e)) (Entries k rows) rest) (one_less n) (entry_bytes e, entry n rows e (entry_bytes e) fits within refl, is)
 
 pub entry_stuck : (e : WireFault) (left rows : ℕ) (bytes : List ℕ) → left ≢ 0 → Fails e (own_entry_at bytes) → e ≡ NotAMessage → IsStuck (Entries left rows) bytes
 entry_stuck e zero rows bytes some fails is = absurd (some refl)
@@ -65,7 +78,8 @@ drop_count_stuck e rows bytes fails is = stuck_drop_count rows bytes (none_read 
 pub drop_arrives : (left : ℕ) (g : Gap) (bytes rest : List ℕ) → left ≢ 0 → IsGap g → gap_within g ≡ true → bytes ≡ gap_bytes g ++ rest →
     Arrives (Drops left) bytes (Some (P.Drop g)) (Drops (left - 1)) rest
 drop_arrives zero g bytes rest some fits within is = absurd (some refl)
-drop_arrives (suc n) g bytes rest some fits within is = (gap_bytes g, a_drop n g (gap_bytes g) fits within refl, is)
+drop_arrives (suc n) g bytes rest some fits within is =
+    subst (λ k. Arrives (Drops (suc n)) bytes (Some (P.Drop g)) (Drops k) rest) (one_less n) (gap_bytes g, a_drop n g (gap_bytes g) fits within refl, is)
 
 pub drop_stuck : (e : WireFault) (left : ℕ) (bytes : List ℕ) → left ≢ 0 → Fails e (own_drop_at bytes) → e ≡ NotAMessage → IsStuck (Drops left) bytes
 drop_stuck e zero bytes some fails is = absurd (some refl)
@@ -86,7 +100,8 @@ derivation_count_stuck e bytes fails is = stuck_derivation_count bytes (none_rea
 pub derivation_arrives : (left : ℕ) (d : Derivation) (bytes rest : List ℕ) → left ≢ 0 → IsDerivation d → bytes ≡ derivation_bytes d ++ rest →
     Arrives (Derivations left) bytes (Some (P.Derivation d)) (Derivations (left - 1)) rest
 derivation_arrives zero d bytes rest some fits is = absurd (some refl)
-derivation_arrives (suc n) d bytes rest some fits is = (derivation_bytes d, derivation n d (derivation_bytes d) fits refl, is)
+derivation_arrives (suc n) d bytes rest some fits is =
+    subst (λ k. Arrives (Derivations (suc n)) bytes (Some (P.Derivation d)) (Derivations k) rest) (one_less n) (derivation_bytes d, derivation n d (derivation_bytes d) fits refl, is)
 
 pub derivation_stuck : (e : WireFault) (left : ℕ) (bytes : List ℕ) → left ≢ 0 → Fails e (derivation_at bytes) → e ≡ NotAMessage → IsStuck (Derivations left) bytes
 derivation_stuck e zero bytes some fails is = absurd (some refl)

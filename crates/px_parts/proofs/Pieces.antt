@@ -53,14 +53,14 @@ goes_behind before piece more left = append_assoc before (take left piece) (take
 -- ---- where a reader is
 
 -- after bytes of a message, these parts were given
-record IsAt (p : Place) (bytes : List ℕ) (left : ℕ) (parts : List Part) (w : Waiting) : Type 0 where
-  place : Place
-  rest : List ℕ
-  is : w ≡ waits place rest left
-  streams : Streams p bytes parts place rest
+pub record IsAt (p : Place) (bytes : List ℕ) (left : ℕ) (parts : List Part) (w : Waiting) : Type 0 where
+  pub place : Place
+  pub rest : List ℕ
+  pub is : w ≡ waits place rest left
+  pub streams : Streams p bytes parts place rest
 
 -- after bytes that were handed in
-abbrev IsAfter : Waiting → List ℕ → List Part → Waiting → Type 0
+abbrev pub IsAfter : Waiting → List ℕ → List Part → Waiting → Type 0
 IsAfter (waits p before left) bytes parts w = IsAt p (before ++ take left bytes) (left - length bytes) parts w
 IsAfter refuses bytes parts w = Unit {0}
 
@@ -134,7 +134,7 @@ begin n pieces more parts w m takes replying spells many =
     let at = started n pieces parts w takes in
     let so_far : Streams Start (joined pieces) parts at.place at.rest = subst (λ l. Streams Start l parts at.place at.rest) (short n (joined pieces) more many) at.streams in
     let all = said_streams m (joined pieces ++ more) replying spells in
-    let e = streams_begin Start at.place Over (joined pieces) at.rest more parts (parts_of m) so_far all in
+    let e = streams_begin Start at.place (joined pieces) at.rest more parts (parts_of m) so_far all in
     (e.0, e.1)
 
 -- one piece more

@@ -155,6 +155,10 @@ no_parts_yet p bytes = stays
 pub falls_on : (p q : Place) (bytes rest : List ℕ) → Arrives p bytes None q rest → rank q < rank p
 falls_on p q bytes rest (front, comes, is) = falls p q front comes
 
+pub falls_at : (p q : Place) (bytes rest : List ℕ) (x : Option Part) → x ≡ None → Arrives p bytes x q rest → rank q < rank p
+falls_at p q bytes rest None none arrives = falls_on p q bytes rest arrives
+falls_at p q bytes rest (Some x) none arrives = absurd cc
+
 -- the parts of more bytes begin with those of the first
 pub streams_begin : (p q : Place) (bytes rest more : List ℕ) (parts all : List Part) → Streams p bytes parts q rest → Streams p (bytes ++ more) all Over [] →
     (others : List Part) × (all ≡ parts ++ others) × Streams q (rest ++ more) others Over []

@@ -8,7 +8,7 @@ use px_spelling::WireFault;
 use std::alloc::Global;
 
 /// The next part, where bytes hold it whole, and where the message goes on. Else where nothing more comes in them.
-#[tactic(auto, using(crate::proofs::Streaming::then_part, crate::proofs::Streaming::then_count, crate::proofs::Streaming::no_parts_yet, crate::proofs::Streaming::falls_on))]
+#[tactic(auto, using(crate::proofs::Streaming::then_part, crate::proofs::Streaming::then_count, crate::proofs::Streaming::no_parts_yet))]
 pub(crate) fn find(
     alloc: Global,
     place: Place,

@@ -4,8 +4,8 @@ use Rattle.px_parts.proofs.Streaming.{rank}
 use Rattle.px_parts.proofs.finding.find.Given as goal
 
 -- only counts came so far
-abbrev pub invariant-loop-here : goal.invariant-loop-here
-invariant-loop-here l = Streams l.place l.bytes [] l.here l.rest
+abbrev pub invariant-loop-come : goal.invariant-loop-come
+invariant-loop-come l = Streams l.fn.place l.fn.bytes [] l.here l.rest
 
-abbrev pub decreases-loop-here : goal.decreases-loop-here
-decreases-loop-here l = rank l.here
+abbrev pub decreases-loop-come : goal.decreases-loop-come
+decreases-loop-come l = rank l.here
