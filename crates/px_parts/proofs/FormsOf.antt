@@ -1,5 +1,5 @@
 -- Each value's bytes are one of its form.
-use Rattle.std.proofs.Common.{◌≡◌, ℕ, suc, List, [], ◌∷◌, ◌++◌, Option, Some, None, true, refl}
+use Rattle.std.proofs.Common.{◌≡◌, ℕ, List, [], ◌∷◌, ◌++◌, Option, Some, None, refl, subst}
 use Rattle.std.specs.Prelude.{IfSome}
 use Rattle.px_base.specs.Bounds.{most_marks, most_conjuncts, most_atoms, most_variables}
 use Rattle.px_base.specs.declared.trace.Site.{Site}
@@ -49,6 +49,7 @@ use Rattle.px_spelling.specs.Tables.{long_kind_bytes, cause_bytes, IsCause, gap_
 use Rattle.px_spelling.specs.Derivations.{step_bytes, IsStep, derivation_bytes, IsDerivation}
 use Rattle.px_parts.specs.declared.form.Form.TheVariants as F
 use Rattle.px_parts.specs.Forms.{due, entry_dues, drop_dues}
+use Rattle.px_spelling.proofs.Nine.{nine}
 use Rattle.px_parts.proofs.Filling.{IsOne, AreDue, one_fills, two_fill, then_due, last_due, front_then, fixed, list_is_one}
 
 -- ---- so many bytes
@@ -232,13 +233,23 @@ entry_due e (is_proc, are_marks, is_exit, is_answer, are_variables, are_conjunct
     let before = list_bytes atom_bytes e.pre in
     let after = list_bytes atom_bytes e.post in
     let model = list_bytes value_bytes e.model in
+    let r7 = after ++ model in
+    let r6 = before ++ r7 in
+    let r5 = conjuncts ++ r6 in
+    let r4 = variables ++ r5 in
+    let r3 = answer ++ r4 in
+    let r2 = exit_bytes e.exit ++ r3 in
+    let r1 = marks ++ r2 in
+    let all = proc_id_bytes e.proc ++ r1 in
     let last = last_due F.Values 1 model (one_fills F.Values model (values_form e.model are_values)) in
     let eighth = then_due F.Atoms 1 after model _ (one_fills F.Atoms after (atoms_form e.post are_after)) last in
-    let seventh = then_due F.Atoms 1 before (after ++ model) _ (one_fills F.Atoms before (atoms_form e.pre are_before)) eighth in
-    let sixth = then_due F.Conjuncts 1 conjuncts (before ++ after ++ model) _ (one_fills F.Conjuncts conjuncts (conjuncts_form e.pure are_conjuncts)) seventh in
-    let fifth = then_due F.Variables 1 variables (conjuncts ++ before ++ after ++ model) _ (one_fills F.Variables variables (variables_form e.vars are_variables)) sixth in
-    let fourth = then_due F.Answer 1 answer (variables ++ conjuncts ++ before ++ after ++ model) _ (one_fills F.Answer answer (answer_form e.result is_answer)) fifth in
-    let third = then_due F.Exit 1 (exit_bytes e.exit) (answer ++ variables ++ conjuncts ++ before ++ after ++ model) _ (one_fills F.Exit (exit_bytes e.exit) (exit_form e.exit)) fourth in
-    let second = then_due F.Marks 1 marks (exit_bytes e.exit ++ answer ++ variables ++ conjuncts ++ before ++ after ++ model) _ (one_fills F.Marks marks (marks_form e.trace are_marks)) third in
-    then_due F.Word 1 (proc_id_bytes e.proc) (marks ++ exit_bytes e.exit ++ answer ++ variables ++ conjuncts ++ before ++ after ++ model) _
-    (one_fills F.Word (proc_id_bytes e.proc) (word_form e.proc.0)) second
+    let seventh = then_due F.Atoms 1 before r7 _ (one_fills F.Atoms before (atoms_form e.pre are_before)) eighth in
+    let sixth = then_due F.Conjuncts 1 conjuncts r6 _ (one_fills F.Conjuncts conjuncts (conjuncts_form e.pure are_conjuncts)) seventh in
+    let fifth = then_due F.Variables 1 variables r5 _ (one_fills F.Variables variables (variables_form e.vars are_variables)) sixth in
+    let fourth = then_due F.Answer 1 answer r4 _ (one_fills F.Answer answer (answer_form e.result is_answer)) fifth in
+    let third = then_due F.Exit 1 (exit_bytes e.exit) r3 _ (one_fills F.Exit (exit_bytes e.exit) (exit_form e.exit)) fourth in
+    let second = then_due F.Marks 1 marks r2 _ (one_fills F.Marks marks (marks_form e.trace are_marks)) third in
+    let first : AreDue entry_dues all = then_due F.Word 1 (proc_id_bytes e.proc) r1 _ (one_fills F.Word (proc_id_bytes e.proc) (word_form e.proc.0)) second in
+    let is : all ≡ entry_bytes e =
+    nine all [] all (proc_id_bytes e.proc) r1 marks r2 (exit_bytes e.exit) r3 answer r4 variables r5 conjuncts r6 before r7 after model refl refl refl refl refl refl refl refl refl in
+    subst (λ l. AreDue entry_dues l) is first
