@@ -50,7 +50,7 @@ pub(crate) fn take_piece(
         Ok(found) => {
             let (part, place, rest) = found;
             let behind = rest.len();
-            go_on(unread, place, behind, count);
+            go_on(unread, place, behind, count as u32);
             let ended = part.is_none() && is_ended(alloc, unread);
             answer(part, place, behind, unread.left, ended, count as u64)
         }
@@ -78,11 +78,27 @@ fn hold(alloc: Global, unread: &mut Unread, bytes: &[u8]) -> Result<(), WireFaul
     if bytes.is_empty() {
         return Ok(());
     }
+    let_go(alloc, unread)?;
+    unread.held.extend_from_slice(bytes)?;
+    Ok(())
+}
+
+// Lets go the bytes of parts that were given.
+#[tactic(auto, using(crate::proofs::Holding::skim_same))]
+fn let_go(alloc: Global, unread: &mut Unread) -> Result<(), WireFault>
+    requires within { unread.old.start ≤ length unread.old.held.items }
+    requires skim { IsSkim unread.old.place (held_in unread.old) unread.old.skim }
+    ensures within { unread.new.start ≤ length unread.new.held.items }
+    ensures skim { IsSkim unread.new.place (held_in unread.new) unread.new.skim }
+    ensures place { unread.new.place ≡ unread.old.place }
+    ensures left { unread.new.left ≡ unread.old.left }
+    ensures same { held_in unread.new ≡ held_in unread.old }
+    ensures memory { ¬ IsErrOf result fault.NotAMessage }
+{
     if unread.start > 0 {
         unread.held = Vec::from_slice(alloc, &unread.held[unread.start..])?;
         unread.start = 0;
     }
-    unread.held.extend_from_slice(bytes)?;
     Ok(())
 }
 
@@ -99,7 +115,7 @@ fn look(unread: &mut Unread) -> Known
 
 // Goes on to a place with so many bytes behind it, where so many more were taken.
 #[tactic(auto, using(crate::proofs::Skimming::skim_not_begun))]
-fn go_on(unread: &mut Unread, place: Place, behind: usize, count: usize)
+fn go_on(unread: &mut Unread, place: Place, behind: usize, count: u32)
     requires behind { behind ≤ length unread.old.held.items }
     requires left { count ≤ unread.old.left }
     ensures within { unread.new.start ≤ length unread.new.held.items }
@@ -110,7 +126,7 @@ fn go_on(unread: &mut Unread, place: Place, behind: usize, count: usize)
 {
     unread.place = place;
     unread.start = unread.held.len() - behind;
-    unread.left -= count as u32;
+    unread.left -= count;
     unread.skim.begun = false;
 }
 
