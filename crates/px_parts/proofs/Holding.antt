@@ -1,7 +1,7 @@
 -- Bytes that are held, and those behind what was found.
 use Rattle.std.proofs.Common.{◌≡◌, ℕ, ◌+◌, ◌-◌, ◌≤◌, List, [], ◌∷◌, ◌++◌, length, refl, sym, ap, subst, ◌∙◌, append_assoc, arith}
 use Rattle.std.specs.Prelude.{take, drop, min}
-use Rattle.std.proofs.lemmas.List.{length-append, length-drop, length-take, take-append-drop, drop-take, drop-append-le}
+use Rattle.std.proofs.lemmas.List.{take_all, length-append, length-drop, length-take, take-append-drop, drop-take, drop-append-le}
 use Rattle.std.proofs.Math.Seq.{take-append_seam, drop-append_seam}
 use Rattle.px_parts.specs.declared.part.Part.{Part}
 use Rattle.px_parts.specs.declared.place.Place.{Place}
@@ -51,3 +51,7 @@ held_more start xs ys within = drop-append-le start xs ys within
 
 pub how_many : (start : ℕ) (xs : List ℕ) → length (drop start xs) ≡ length xs - start
 how_many start xs = length-drop start xs
+
+-- a slice to the end
+pub to_the_end : (start : ℕ) (xs : List ℕ) → take (length xs - start) (drop start xs) ≡ drop start xs
+to_the_end start xs = take_all (length xs - start) (drop start xs) (omega (arith, length-drop start xs))
