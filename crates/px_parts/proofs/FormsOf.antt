@@ -15,6 +15,7 @@ use Rattle.px_terms.specs.declared.types.Value.TheVariants as W
 use Rattle.px_terms.specs.declared.variables.Sort.{Sort}
 use Rattle.px_terms.specs.declared.variables.Sort.TheVariants as S
 use Rattle.px_terms.specs.declared.variables.VarInfo.{VarInfo}
+use Rattle.px_terms.specs.declared.variables.Var.{Var}
 use Rattle.px_terms.specs.declared.conjuncts.Place.{Place}
 use Rattle.px_terms.specs.declared.conjuncts.Place.TheVariants as P
 use Rattle.px_terms.specs.declared.conjuncts.Content.{Content}
@@ -148,6 +149,12 @@ answer_form : (o : Option Content) → IfSome o IsContent → IsOne F.Answer (op
 answer_form None fits = fixed F.Answer (0 ∷ []) refl refl
 answer_form (Some c) fits = front_then F.Answer F.Content 1 (1 ∷ []) (content_bytes c) refl refl (one_fills F.Content (content_bytes c) (content_form c fits))
 
+quotient_form : (x : Var) (a b : Polynomial) → IsPolynomialInRange a → IsPolynomialInRange b → IsOne F.Quotient (var_bytes x ++ polynomial_bytes a ++ polynomial_bytes b)
+quotient_form x a b first second =
+    let both = polynomial_bytes a ++ polynomial_bytes b in
+    front_then F.Quotient F.Polynomial 2 (var_bytes x) both refl refl
+    (two_fill F.Polynomial (polynomial_bytes a) (polynomial_bytes b) (polynomial_form a first) (polynomial_form b second))
+
 conjunct_form : (j : Conj) → IsConj j → IsOne F.Conjunct (conj_bytes j)
 conjunct_form (J.Equal a) fits = front_then F.Conjunct F.Polynomial 1 (0 ∷ []) (polynomial_bytes a) refl refl (one_fills F.Polynomial (polynomial_bytes a) (polynomial_form a fits))
 conjunct_form (J.Unequal a) fits = front_then F.Conjunct F.Polynomial 1 (1 ∷ []) (polynomial_bytes a) refl refl (one_fills F.Polynomial (polynomial_bytes a) (polynomial_form a fits))
@@ -163,6 +170,8 @@ conjunct_form (J.OtherPlace a b) fits =
     front_then F.Conjunct F.MaybeWord 2 (5 ∷ []) (place_bytes a ++ place_bytes b) refl refl (two_fill F.MaybeWord (place_bytes a) (place_bytes b) (place_form a) (place_form b))
 conjunct_form (J.Written a) fits = front_then F.Conjunct F.Word 1 (6 ∷ []) (var_bytes a) refl refl (one_fills F.Word (var_bytes a) (word_form a.0))
 conjunct_form (J.Unwritten a) fits = front_then F.Conjunct F.Word 1 (7 ∷ []) (var_bytes a) refl refl (one_fills F.Word (var_bytes a) (word_form a.0))
+conjunct_form (J.Quotient x a b) fits =
+    let all = var_bytes x ++ polynomial_bytes a ++ polynomial_bytes b in front_then F.Conjunct F.Quotient 1 (8 ∷ []) all refl refl (one_fills F.Quotient all (quotient_form x a b fits.1.0 fits.1.1))
 
 conjuncts_form : (js : List Conj) → IsList IsConj most_conjuncts js → IsOne F.Conjuncts (list_bytes conj_bytes js)
 conjuncts_form js fits = list_is_one F.Conjuncts F.Conjunct conj_bytes IsConj most_conjuncts refl (λ front. refl) conjunct_form js fits

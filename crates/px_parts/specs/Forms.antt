@@ -35,6 +35,7 @@ size F.Content = 1
 size F.Polynomial = 4
 size F.Term = 4
 size F.Conjunct = 1
+size F.Quotient = 4
 size F.State = 1
 size F.Atom = 8
 size F.Cause = 1
@@ -83,7 +84,8 @@ follow_by F.Value tag = if tag == 0 then due F.Word 1 else due_only_at tag 2 F.W
 follow_by F.Content tag = if tag == 1 then due F.Polynomial 1 else (if tag == 2 then due F.MaybeWord 1 else due_only_at tag 3 F.Word)
 follow_by F.Polynomial tag = due F.Byte 0
 follow_by F.Term tag = due F.Byte 0
-follow_by F.Conjunct tag = if nat_lt tag 2 then due F.Polynomial 1 else (if nat_lt tag 4 then due F.Polynomial 2 else (if nat_lt tag 6 then due F.MaybeWord 2 else due F.Word 1))
+follow_by F.Conjunct tag = if nat_lt tag 2 then due F.Polynomial 1 else (if nat_lt tag 4 then due F.Polynomial 2 else (if nat_lt tag 6 then due F.MaybeWord 2 else (if nat_lt tag 8 then due F.Word 1 else due F.Quotient 1)))
+follow_by F.Quotient tag = due F.Byte 0
 follow_by F.State tag = due_only_at tag 0 F.Contents
 follow_by F.Atom tag = due F.Byte 0
 follow_by F.Cause tag = if tag == 0 then due F.Conjuncts 1 else (if tag == 3 then due F.Byte 1 else due F.Word 1)
@@ -117,6 +119,7 @@ follow F.Content front = follow_by F.Content (tag_in front)
 follow F.Polynomial front = due F.Terms 1
 follow F.Term front = due F.Words 1
 follow F.Conjunct front = follow_by F.Conjunct (tag_in front)
+follow F.Quotient front = due F.Polynomial 2
 follow F.State front = follow_by F.State (tag_in front)
 follow F.Atom front = due F.State 1
 follow F.Cause front = follow_by F.Cause (tag_in front)

@@ -36,6 +36,8 @@ pub(crate) enum Form {
     Polynomial,
     Term,
     Conjunct,
+    /// A variable, and the two polynomials of which it is the quotient.
+    Quotient,
     State,
     Atom,
     Cause,
@@ -96,6 +98,7 @@ pub(crate) fn due_after(form: Form, front: &[u8]) -> Due
         Form::Polynomial => one(Form::Terms),
         Form::Term | Form::Step => one(Form::Words),
         Form::Atom => one(Form::State),
+        Form::Quotient => two(Form::Polynomial),
         _ => due_by(form, tag(front)),
     }
 }
@@ -160,8 +163,10 @@ fn due_by_conjunct(tag: u8) -> Due
         two(Form::Polynomial)
     } else if tag < 6 {
         two(Form::MaybeWord)
-    } else {
+    } else if tag < 8 {
         one(Form::Word)
+    } else {
+        one(Form::Quotient)
     }
 }
 
