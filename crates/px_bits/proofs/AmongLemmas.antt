@@ -1,6 +1,7 @@
 -- What is selected is among the list, and valuations as words.
 use Rattle.std.proofs.Common.{◌≡◌, inl, inr, ℕ, ◌%◌, ◌^◌, List, [], ◌∷◌, get_or, refl, sym, ap₂, subst, ◌∙◌, arith}
 use Rattle.std.specs.Prelude.{All, Contains, ◌<ℤ◌, ◌≤ℤ◌}
+use Rattle.std.proofs.Math.Nat.{mod-mod}
 use Rattle.std.proofs.lemmas.List.Elements.{All-nil, All-cons, All-weaker, All-contains, Contains-append_right}
 use Rattle.px_terms.specs.Words.{signed, word_quotient}
 use Rattle.px_terms.specs.Polynomials.{Polynomial, value_of}
@@ -40,9 +41,6 @@ same_value : (v : Valuation) (p : Polynomial) → value_of (numbers_of v) p ≡ 
 unfolding word_in
 same_value v p = value_alike (numbers_of v) (word_in v) p (λ k d l. omega arith)
 
-wrapped_once : (n : ℕ) → (n % 2 ^ 32) % 2 ^ 32 ≡ n % 2 ^ 32
-wrapped_once n = omega arith
-
 true_of : (v : Valuation) (c : Conj) → IsOnWords c → IsTrueUnder v c → IsTrueOf (word_in v) c
 unfolding word_in
 true_of v (Equal p) w h = sym (same_value v p) ∙ h.1
@@ -53,7 +51,7 @@ true_of v (SamePlace a b) w h = absurd w
 true_of v (OtherPlace a b) w h = absurd w
 true_of v (Written x) w h = absurd w
 true_of v (Unwritten x) w h = absurd w
-true_of v (Quotient x p q) w h = (λ e. h.3.0 (same_value v q ∙ e), wrapped_once (number_of (v x.0)) ∙ h.3.1 ∙ ap₂ word_quotient (same_value v p) (same_value v q))
+true_of v (Quotient x p q) w h = (λ e. h.3.0 (same_value v q ∙ e), mod-mod (number_of (v x.0)) (2 ^ 32) ∙ h.3.1 ∙ ap₂ word_quotient (same_value v p) (same_value v q))
 
 on_words : (c : Conj) → IsComparison c → IsOnWords c
 on_words (Equal p) h = tt

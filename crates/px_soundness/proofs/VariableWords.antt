@@ -1,5 +1,6 @@
 -- The variable that a content is has the content's word.
 use Rattle.std.proofs.Common.{◌≡◌, ℕ, ◌+◌, ◌*◌, ◌%◌, ◌^◌, Bool, true, false, cond, nat_eq, Option, Some, None, List, [], ◌∷◌, refl, ap, ap₂, ◌∙◌, arith}
+use Rattle.std.proofs.Math.Nat.{mod-mod}
 use Rattle.std.proofs.lemmas.Bool.{eqb-true}
 use Rattle.std.proofs.lemmas.Option.{none-some, same_Some}
 use Rattle.px_terms.specs.Terms.{Term, product_at, value_at}
@@ -17,9 +18,6 @@ some_if false o z e = absurd (none-some z e)
 
 plain : (n : ℕ) → (0 + (1 * (n * 1) + 0)) % 2 ^ 32 ≡ n % 2 ^ 32
 plain n = omega arith
-
-once : (n : ℕ) → (n % 2 ^ 32) % 2 ^ 32 ≡ n % 2 ^ 32
-once n = omega arith
 
 module _ (f : ℕ → ℕ) where
   product_word : (k c : ℕ) (xs : List ℕ) (z : Var) → k ≡ 0 → variable_among c xs ≡ Some z → (k + (c * product_at f xs + 0)) % 2 ^ 32 ≡ f z.0 % 2 ^ 32
@@ -42,4 +40,4 @@ variable_number v (Some Unwritten) z e = absurd (none-some z e)
 variable_number v (Some (Place a)) z e = absurd (none-some z e)
 variable_number v (Some (Cell y)) z e = ap (λ (k : Var). numbers_of v k.0 % 2 ^ 32) (same_Some y z e)
 variable_number v (Some (Word p)) z e =
-    ap (λ n. n % 2 ^ 32) (word_back v p) ∙ once (p.constant + value_at (numbers_of v) p.monomials) ∙ sum_word (numbers_of v) p.constant p.monomials z e
+    ap (λ n. n % 2 ^ 32) (word_back v p) ∙ mod-mod (p.constant + value_at (numbers_of v) p.monomials) (2 ^ 32) ∙ sum_word (numbers_of v) p.constant p.monomials z e
