@@ -1,7 +1,7 @@
 -- Points of choice without the ways that lead to nothing live.
 use Rattle.std.specs.Prelude.{◌≡◌, ◌⊎◌, ℕ, Bool, true, false, List, [], ◌∷◌, ◌++◌, All, Contains, ⊤}
 use Rattle.px_terms.specs.declared.conjuncts.Conj.{Conj}
-use Rattle.px_terms.specs.declared.conjuncts.Conj.TheVariants.{Equal, Unequal, Less, AtMost, SamePlace, OtherPlace, Written, Unwritten}
+use Rattle.px_terms.specs.declared.conjuncts.Conj.TheVariants.{Equal, Unequal, Less, AtMost, SamePlace, OtherPlace, Written, Unwritten, Quotient}
 use Rattle.px_solver.specs.Decisions.{IsRefuted}
 use Rattle.px_entry.specs.Constraint.{constraint_of}
 use Rattle.px_callgraph.specs.declared.states.State.{State}
@@ -80,3 +80,4 @@ is_of_cells (SamePlace a b) = true
 is_of_cells (OtherPlace a b) = true
 is_of_cells (Written x) = true
 is_of_cells (Unwritten x) = true
+is_of_cells (Quotient x p q) = false
