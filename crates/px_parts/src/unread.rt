@@ -27,7 +27,7 @@ pub(crate) struct Unread {
 
 /// Takes as much of a piece as is left, and looks for the next part. What comes next is read once when its first bytes are there,
 /// and again when all are.
-#[tactic(auto, using(crate::proofs::Skimming::skim_not_begun))]
+#[tactic(auto, using(crate::proofs::Answering::no_memory, crate::proofs::Skimming::skim_not_begun, crate::proofs::Holding::is_behind, crate::proofs::Holding::still_within, crate::proofs::Holding::how_many))]
 pub(crate) fn take_piece(
     alloc: Global,
     unread: &mut Unread,
