@@ -1,4 +1,4 @@
-use Rattle.std.proofs.Common.{◌≡◌, ◌-◌, length, refl, sym, ap, subst, ◌∙◌, arith, Err}
+use Rattle.std.proofs.Common.{◌≡◌, ◌-◌, length, refl, ap, subst, ◌∙◌, arith, Err}
 use Rattle.std.specs.Prelude.{min}
 use Rattle.px_parts.specs.declared.unread.Unread.{Unread}
 use Rattle.px_parts.specs.Stream.{Streams, those}
