@@ -1,5 +1,5 @@
 -- The alternatives of divisions, worked by hand.
-use Rattle.std.specs.Prelude.{◌≡◌, ℕ, pos, negsuc, List, [], ◌∷◌, ◌++◌, Some, None, replicate}
+use Rattle.std.specs.Prelude.{◌≡◌, ℕ, pos, negsuc, List, [], ◌∷◌, ◌++◌, None, replicate}
 use Rattle.px_base.specs.declared.trace.Kind.TheVariants.{DivisionByZero}
 use Rattle.px_terms.specs.Polynomials.{Polynomial}
 use Rattle.px_terms.specs.declared.types.ValueType.TheVariants.{Int}
