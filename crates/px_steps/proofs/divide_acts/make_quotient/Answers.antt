@@ -1,4 +1,4 @@
-use Rattle.std.proofs.Common.{◌∙◌, []}
+use Rattle.std.proofs.Common.{rules, []}
 use Rattle.px_steps.proofs.PathLimitLemmas.{next_led, cut_led}
 use Rattle.px_steps.proofs.DivideLemmas.{dividing, quotient_made, made_grows, made_is}
 use Rattle.px_steps.proofs.divide_acts.make_quotient.Goals as goal
@@ -21,4 +21,4 @@ returns-in_ok-take_quotient-in-None c =
     let g = made_grows s a.to a.p.now a.q.now o.other l.result o.ensures l.ensures c.keep_short.ensures c.keep_short-2.ensures c.count_both.result c.count_both.ensures in
     let m = made_is s a.to a.p.now a.q.now o.other l.result o.ensures l.ensures c.keep_short.ensures c.keep_short-2.ensures in
     next_led s (dividing c.count_both.result) c.take_quotient.new.state (quotient_made s a.to a.p.now a.q.now) []
-    (c.take_quotient.ensures ∙ m) c.in-None.ensures.first g
+    (search (rules, m)) c.in-None.ensures.first g
