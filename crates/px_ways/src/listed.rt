@@ -157,6 +157,7 @@ fn is_quotient_way(
 }
 
 // The same of contents.
+#[tactic(auto, using(crate::proofs::ListedLemmas::quotients))]
 fn is_quotient_way_of(vars: &[VarInfo], a: &Content, b: &Content, way: Way) -> bool
     ensures { result ≡ lists (spec.divide_ways vars.now a.now b.now) way }
 {
@@ -167,9 +168,8 @@ fn is_quotient_way_of(vars: &[VarInfo], a: &Content, b: &Content, way: Way) -> b
 }
 
 // The same of words.
-#[tactic(auto, using(crate::proofs::ListedLemmas::quotients))]
 fn is_quotient_of_words(vars: &[VarInfo], p: &Poly, q: &Poly, way: Way) -> bool
-    ensures { result ≡ lists (spec.word_ways vars.now p.now q.now) way }
+    ensures { result ≡ listed.is_quotient vars.now p.now q.now way }
 {
     match way {
         Way::ByZero => may_be_zero(vars, q),
