@@ -1,5 +1,5 @@
 -- A way that is listed outside a call is taken by its steps.
-use Rattle.std.proofs.Common.{◌≡◌, ℕ, suc, ◌+◌, List, [], ◌∷◌, ◌++◌, length, Bool, true, false, nat_eq, Option, Some, None, slice_get, refl, sym, ◌∙◌, ap, subst, arith, append_assoc, length-append}
+use Rattle.std.proofs.Common.{◌≡◌, ℕ, suc, ◌+◌, List, [], ◌∷◌, ◌++◌, length, Bool, true, false, nat_eq, Option, Some, None, slice_get, refl, sym, ◌∙◌, ap, subst, arith, append_assoc, length-append, ◌&&◌, ◌||◌}
 use Rattle.std.specs.Prelude.{Contains, ◌&&◌}
 use Rattle.std.specs.List.{list_any}
 use Rattle.std.proofs.lemmas.Bool.{or_right, or_left}
@@ -15,6 +15,8 @@ use Rattle.px_terms.specs.declared.conjuncts.Conj.TheVariants.{SamePlace}
 use Rattle.px_core.specs.declared.command.Operand.{Operand}
 use Rattle.px_core.specs.CommandTree.{CommandTree, assign, unset, read, test, choose, loop, leave, load, store, malloc, free, input, call, return, break, continue, stop, divide}
 use Rattle.px_core.specs.Control.{Item, Act, AfterHead, AfterBody, AfterStep, acts, one_turn_more}
+use Rattle.px_terms.specs.declared.conjuncts.Conj.TheVariants as conjunct
+use Rattle.px_entry.specs.Sorts.{is_long, is_int_polynomial}
 use Rattle.px_entry.specs.declared.atoms.Atom.{Atom}
 use Rattle.px_entry.specs.declared.derivations.Rule.{Rule}
 use Rattle.px_entry.specs.declared.derivations.Rule.TheVariants as rule
@@ -200,7 +202,10 @@ module _ (j : JobTree) (s : State) (k : List Item) where
 
   divisions : (to : ℕ) (a b : Operand) (site : _) (x y : Content) → Each (C (divide to a b site)) (divide_ways s.vars x y)
   divisions to a b site (Word p) (Word q) =
-      each_append (C (divide to a b site)) _ _ (listed (C (divide to a b site)) _ way.ByZero (refl, refl)) (listed (C (divide to a b site)) _ way.Divided (refl, refl))
+      let by_zero = is_open s.vars (conjunct.Equal q) in
+      let by_other = is_open s.vars (conjunct.Unequal q) && (is_long p || is_int_polynomial s.vars p) in
+      each_append (C (divide to a b site)) (listed_if by_zero way.ByZero) (listed_if by_other way.Divided)
+      (listed (C (divide to a b site)) by_zero way.ByZero (refl, refl)) (listed (C (divide to a b site)) by_other way.Divided (refl, refl))
   divisions to a b site (Word p) Unwritten = tt
   divisions to a b site (Word p) (Place z) = tt
   divisions to a b site (Word p) (Cell z) = tt
