@@ -1,8 +1,9 @@
 //! Reads cases of the reading of real C, one a line, and prints what its calls make of each. What it prints must be its `stdout`.
 //!
-//! A line is one of the words `tokens`, `items`, `expression`, `read`, `body`, `declaration`, `member`, `parameter`, `members`, `enumerators`, `parameters`, `head`, `types`, `cells`, `kept`, `fates`
+//! A line is one of the words `tokens`, `items`, `expression`, `read`, `body`, `declaration`, `member`, `parameter`, `members`, `enumerators`, `parameters`, `head`, `names`, `types`, `cells`, `kept`, `fates`
 //! and `callee`, and a text in the short form of case_texts. In expressions and declarations the words `T`, `list` and `size_t` are names of types; `read` says only whether there is an
-//! expression. `types` says what the profile sees of the types of a declaration, `cells` of those of members, and `kept` of that of a parameter; `fates` and `callee` are of the
+//! expression. `types` says what the profile sees of the types of a declaration, `cells` of those of members, and `kept` of that of a parameter; `names` says of the words
+//! behind a `?` whether they are names of types behind the declarations before it; `fates` and `callee` are of the
 //! functions of files, which a line spells in a form of its own (src/links.rt).
 #![tactic(auto)]
 
@@ -10,6 +11,7 @@ mod bodies;
 mod declarations;
 mod held;
 mod links;
+mod scopes;
 mod shapes;
 mod trees;
 mod types;
@@ -26,6 +28,7 @@ use px_real_declaring::{Declaration, DeclarationFault, declaration_of, member_of
 use px_real_members::{enumerators_of, head_of, members_of, parameters_of};
 use px_real_reading::{ExpressionFault, expression_of};
 use px_real_tokens::{LexFault, Token, TokenKind, lex};
+use scopes::known;
 use shapes::{write_layout, write_parameter, write_seen};
 use std::alloc::Global;
 use std::fmt::Write;
@@ -53,6 +56,7 @@ fn answer(alloc: Global, case: &str) -> Result<String> {
         "enumerators" => enumerators(alloc, &text),
         "parameters" => parameters(alloc, &text),
         "head" => head(alloc, &text),
+        "names" => names(alloc, &text),
         "fates" => fates(alloc, &text),
         "callee" => callee(alloc, &text),
         "types" => declared(alloc, &text, Declares::Plain, true),
@@ -274,6 +278,13 @@ fn parameters(alloc: Global, text: &str) -> Result<String> {
         Err(fault) => write_declaration_fault(&mut out, &tokens, fault)?,
     }
     Ok(out)
+}
+
+// Which of the words behind a `?` are names of types.
+fn names(alloc: Global, text: &str) -> Result<String> {
+    let (declarations, words) = text.split_once('?').context("no words")?;
+    let tokens = tokens_of(alloc, declarations)?;
+    known(alloc, declarations, &tokens, words)
 }
 
 // The head of a function that a text is, or the fault.

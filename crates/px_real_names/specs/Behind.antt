@@ -1,0 +1,28 @@
+-- The names behind a declaration, as the code says them.
+use Rattle.std.specs.Prelude.{ℕ, List, map, reverse, Bool, false, codes, Result, Ok, Err}
+use Rattle.std.specs.Str.{bytes_eq}
+use Rattle.px_real_declarations.specs.DeclarationTree.{SpecifierTree, keyword, DeclarationTree}
+use Rattle.px_real_declarations.specs.Names.{Names, NamesAfter}
+use Rattle.px_real_declaring.specs.declared.reading.DeclarationFault.{DeclarationFault}
+use Rattle.px_real_declaring.specs.Items.{nesting_limit}
+use Rattle.px_real_declaring.specs.Whole.{NoneIs}
+use Rattle.px_real_names.specs.declared.names.Entry.{Entry}
+use Rattle.px_real_names.specs.Enumerated.{struct_limit}
+
+abbrev pub entry_view : Entry → List ℕ × Bool
+entry_view e = (e.name, e.is_type)
+
+-- the nearest first
+abbrev pub names_view : List Entry → Names
+names_view entries = reverse (map entry_view entries)
+
+-- whether it is the word `typedef`
+abbrev pub is_typedef_word : SpecifierTree → Bool
+is_typedef_word (keyword word s) = bytes_eq word (codes "typedef")
+is_typedef_word _ = false
+
+-- what is in scope behind a declaration, where structs and declarators nest no deeper than they are read; a fault but for memory says
+-- that nothing is
+abbrev pub IsBehind : Names → DeclarationTree → Names → Result Unit DeclarationFault → Type 0
+IsBehind names x after (Ok u) = NamesAfter nesting_limit struct_limit names x after
+IsBehind names x after (Err e) = NoneIs (NamesAfter nesting_limit struct_limit names x) e

@@ -1,0 +1,8 @@
+//! The names that are in scope behind a declaration of real C, and which of them are types'. What is in scope is what px_real_declarations
+//! says of the declaration and of the names before it.
+#![tactic(auto)]
+
+mod enumerated;
+mod names;
+
+pub use names::Names;
