@@ -1,16 +1,15 @@
 -- What is in scope behind a declaration.
-use Rattle.std.proofs.Common.{◌≡◌, ℕ, zero, suc, ◌+◌, ◌-◌, ◌<◌, ◌≤◌, Bool, true, false, ◌||◌, List, [], ◌∷◌, ◌++◌, length, take, drop, get_or, map, reverse, Option, Some, None, refl, ap, sym, ◌∙◌}
+use Rattle.std.proofs.Common.{◌≡◌, ℕ, zero, suc, ◌+◌, ◌-◌, ◌<◌, ◌≤◌, Bool, true, false, ◌||◌, List, [], ◌∷◌, ◌++◌, length, take, drop, get_or, map, reverse, Option, Some, None, Err, refl, ap, sym, ◌∙◌}
 use Rattle.std.proofs.lemmas.List.{drop_more, drop_all, take-map, drop-map, take_more, map_push, reverse-append}
 use Rattle.px_real_names.specs.declared.names.Entry.{Entry}
-use Rattle.px_real_names.specs.Behind.{entry_view, names_view, is_typedef_word}
+use Rattle.px_real_names.specs.Behind.{entry_view, names_view, is_typedef_word, LeavesNone}
 use Rattle.px_real_declarations.specs.DeclarationTree.{SpecifierTree, keyword, type_name, group, tagged, DeclaredTree, DeclarationTree, declaration}
 use Rattle.px_real_declarations.specs.Names.{Names, NamesAfter, of_declaration, of_assertion, Enumerate, is_type, is_typedef, with_declared, with_enumerators}
 use Rattle.px_real_declaring.specs.declared.reading.DeclarationFault.{DeclarationFault}
 use Rattle.px_real_declaring.specs.declared.reading.DeclarationFault.TheVariants as D
 use Rattle.px_real_declaring.specs.declared.tree.Specifier.{Specifier}
 use Rattle.px_real_declaring.specs.Items.{nesting_limit}
-use Rattle.px_real_declaring.specs.Whole.{NoneIs}
-use Rattle.px_real_names.specs.Enumerated.{Words, enumerated, struct_limit}
+use Rattle.px_real_names.specs.Enumerated.{Words, enumerated, struct_limit, Found}
 use Rattle.px_real_names.proofs.EnumeratedExact.{enumerated_sound, enumerated_complete}
 
 pub behind : (names after : Names) (ss : List SpecifierTree) (xs : List DeclaredTree) (words : List (List ℕ)) → enumerated (is_type names) ss ≡ Some words → after ≡ with_declared (is_typedef ss) xs (with_enumerators words names) →
@@ -25,10 +24,10 @@ nothing_behind names after ss xs h (of_declaration {ss = ss1} {words = words} e 
     absurd (let z : None ≡ Some words = sym h ∙ there in cc)
 nothing_behind names after ss xs h (of_assertion e a) = absurd cc
 
-pub none_behind : (names : Names) (ss : List SpecifierTree) (xs : List DeclaredTree) (e : DeclarationFault) → (e ≡ D.NoMemory → ⊥) → enumerated (is_type names) ss ≡ None → NoneIs (NamesAfter nesting_limit struct_limit names (declaration ss xs)) e
-none_behind names ss xs D.NoMemory n h = tt
-none_behind names ss xs (D.NotADeclaration at) n h = λ after m. nothing_behind names after ss xs h m
-none_behind names ss xs (D.Deep at) n h = λ after m. nothing_behind names after ss xs h m
+pub none_behind : (names : Names) (ss : List SpecifierTree) (xs : List DeclaredTree) (e : DeclarationFault) → Found (λ (ws : List (List ℕ)). ws) (Err e) (enumerated (is_type names) ss) → LeavesNone names (declaration ss xs) names e
+none_behind names ss xs D.NoMemory h = tt
+none_behind names ss xs (D.NotADeclaration at) h = (λ other m. nothing_behind names other ss xs h m, refl)
+none_behind names ss xs (D.Deep at) h = (λ other m. nothing_behind names other ss xs h m, refl)
 
 -- ---- tokens that are held
 

@@ -1,11 +1,11 @@
 -- The names behind a declaration, as the code says them.
-use Rattle.std.specs.Prelude.{ℕ, List, map, reverse, Bool, false, codes, Result, Ok, Err}
+use Rattle.std.specs.Prelude.{◌≡◌, ℕ, List, [], ◌∷◌, map, reverse, Bool, false, None, codes, Result, Ok, Err}
 use Rattle.std.specs.Str.{bytes_eq}
-use Rattle.px_real_declarations.specs.DeclarationTree.{SpecifierTree, keyword, DeclarationTree}
+use Rattle.px_real_declarations.specs.DeclarationTree.{SpecifierTree, keyword, DeclarationTree, declaration, HeadTree}
 use Rattle.px_real_declarations.specs.Names.{Names, NamesAfter}
 use Rattle.px_real_declaring.specs.declared.reading.DeclarationFault.{DeclarationFault}
+use Rattle.px_real_declaring.specs.declared.reading.DeclarationFault.TheVariants as D
 use Rattle.px_real_declaring.specs.Items.{nesting_limit}
-use Rattle.px_real_declaring.specs.Whole.{NoneIs}
 use Rattle.px_real_names.specs.declared.names.Entry.{Entry}
 use Rattle.px_real_names.specs.Enumerated.{struct_limit}
 
@@ -21,8 +21,19 @@ abbrev pub is_typedef_word : SpecifierTree → Bool
 is_typedef_word (keyword word s) = bytes_eq word (codes "typedef")
 is_typedef_word _ = false
 
--- what is in scope behind a declaration, where structs and declarators nest no deeper than they are read; a fault but for memory says
--- that nothing is
+-- what is in scope behind a declaration, where structs and declarators nest no deeper than they are read
+abbrev pub Leaves : Names → DeclarationTree → Names → Type 0
+Leaves = NamesAfter nesting_limit struct_limit
+
+-- unless memory ran out, nothing is, and what was in scope still is
+abbrev pub LeavesNone : Names → DeclarationTree → Names → DeclarationFault → Type 0
+LeavesNone names x after D.NoMemory = Unit {0}
+LeavesNone names x after e = ((other : Names) → Leaves names x other → ⊥) × (after ≡ names)
+
 abbrev pub IsBehind : Names → DeclarationTree → Names → Result Unit DeclarationFault → Type 0
-IsBehind names x after (Ok u) = NamesAfter nesting_limit struct_limit names x after
-IsBehind names x after (Err e) = NoneIs (NamesAfter nesting_limit struct_limit names x) e
+IsBehind names x after (Ok u) = Leaves names x after
+IsBehind names x after (Err e) = LeavesNone names x after e
+
+-- what a function's head declares: one thing, as a declaration with its specifiers and its declarator would
+abbrev pub of_head : HeadTree → DeclarationTree
+of_head h = declaration h.specifiers (record { before = []; declarator = h.declarator; label = None; after = []; value = None } ∷ [])

@@ -1,4 +1,4 @@
-ghost use Rattle.std.specs.Prelude.{◌≡◌, ◌++◌, List, map, take, drop, OnOk};
+ghost use Rattle.std.specs.Prelude.{◌≡◌, ◌++◌, List, map, OnOk};
 ghost use Rattle.px_real_expressions.specs.Lexemes.{Lexeme};
 ghost use Rattle.px_real_symbols.specs.Symbols.{held_in};
 ghost use Rattle.px_real_declarations.specs.Names.{enumerator_name};
@@ -7,11 +7,11 @@ ghost use Rattle.px_real_members.specs.Trees.{enumerator_tree};
 ghost use Rattle.px_real_types.specs.Scopes.{texts};
 ghost use Rattle.px_real_names.specs.Enumerated.{of_enumeration, of_record, of_held, of_specifier, of_each, of_member, of_members, deeper_by, enumerated_by, enumerated, Adds, Found};
 
+use crate::slices::{skip, some_first};
 use px_real_declarations::Role;
 use px_real_declaring::{Declaration, DeclarationFault, Specifier, role_of};
 use px_real_members::{Enumerator, enumerators_of, members_of};
 use px_real_symbols::{Span, TypeNames};
-use px_real_tokens::Token;
 use px_real_types::Texts;
 use px_syntax::Name;
 use px_terms::NoMemory;
@@ -19,28 +19,6 @@ use std::alloc::Global;
 
 // How deep structs may stand within one another.
 const STRUCT_LIMIT: u32 = 200;
-
-// All but the first so many.
-fn skip<'a>(tokens: &'a [Token], count: usize) -> &'a [Token]
-    ensures { result.now ≡ drop count tokens.entry.now }
-{
-    if count < tokens.len() {
-        &tokens[count..]
-    } else {
-        &tokens[tokens.len()..]
-    }
-}
-
-// The first so many.
-fn some_first<'a>(tokens: &'a [Token], count: usize) -> &'a [Token]
-    ensures { result.now ≡ take count tokens.entry.now }
-{
-    if count < tokens.len() {
-        &tokens[..count]
-    } else {
-        tokens
-    }
-}
 
 // The tokens that are held.
 fn within<'a>(on: Texts<'a>, held: Span) -> Texts<'a>

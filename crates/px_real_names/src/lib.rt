@@ -4,5 +4,6 @@
 
 mod enumerated;
 mod names;
+pub mod slices;
 
 pub use names::Names;

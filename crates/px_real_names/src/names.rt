@@ -1,12 +1,14 @@
 ghost use Rattle.std.specs.Prelude.{◌≡◌, ◌∷◌, [], List, map, OnOk};
 ghost use Rattle.px_real_expressions.specs.Lexemes.{Lexeme};
 ghost use Rattle.px_real_declarations.specs.Names as Scopes;
-ghost use Rattle.px_real_declaring.specs.Trees.{specifier_tree, declared_tree, declaration_tree};
+ghost use Rattle.px_real_declaring.specs.Trees.{specifier_tree, declarator_tree, declared_tree, declaration_tree};
+ghost use Rattle.px_real_members.specs.Trees.{head_tree};
 ghost use Rattle.px_real_types.specs.Scopes.{texts};
-ghost use Rattle.px_real_names.specs.Behind.{names_view, is_typedef_word, IsBehind};
+ghost use Rattle.px_real_names.specs.Behind.{names_view, is_typedef_word, of_head, IsBehind};
 
 use crate::enumerated::enumerated;
-use px_real_declaring::{Declaration, DeclarationFault, Declared, Specifier};
+use px_real_declaring::{Declaration, DeclarationFault, Declarator, Declared, Specifier};
+use px_real_members::Head;
 use px_real_symbols::TypeNames;
 use px_real_types::{Texts, declared_name};
 use px_syntax::Name;
@@ -110,16 +112,15 @@ impl Names {
     }
 
     // Brings what a declarator declares into scope, if it has a name.
-    fn add_declared(
+    fn add_declarator(
         &mut self,
         alloc: Global,
-        on: Texts,
         is_type: bool,
-        declared: &Declared,
+        declarator: &Declarator,
     ) -> Result<(), NoMemory>
-        ensures { OnOk result (self.new ≡ Scopes.with_name is_type (Scopes.declared_name (declared_tree (texts on.entry) declared.now).declarator) self.old) }
+        ensures { OnOk result ((all : List Lexeme) → self.new ≡ Scopes.with_name is_type (Scopes.declared_name (declarator_tree all declarator.now)) self.old) }
     {
-        match declared_name(&declared.declarator) {
+        match declared_name(declarator) {
             Some(name) => self.add(alloc, name.as_slice(), is_type),
             None => Ok(()),
         }
@@ -129,14 +130,13 @@ impl Names {
     fn add_all(
         &mut self,
         alloc: Global,
-        on: Texts,
         is_type: bool,
         declared: &[Declared],
     ) -> Result<(), NoMemory>
-        ensures { OnOk result (self.new ≡ Scopes.with_declared is_type (map (declared_tree (texts on.entry)) declared.now) self.old) }
+        ensures { OnOk result ((all : List Lexeme) → self.new ≡ Scopes.with_declared is_type (map (declared_tree all) declared.now) self.old) }
     {
         for each in declared {
-            self.add_declared(alloc, on, is_type, each)?;
+            self.add_declarator(alloc, is_type, &each.declarator)?;
         }
         Ok(())
     }
@@ -159,7 +159,22 @@ impl Names {
         };
         let words = enumerated(alloc, on, self, specifiers)?;
         self.add_enumerators(alloc, &words)?;
-        self.add_all(alloc, on, is_typedef(specifiers), declared)?;
+        self.add_all(alloc, is_typedef(specifiers), declared)?;
+        Ok(())
+    }
+
+    /// Brings what a function's head declares into scope: enumerators of its specifiers, and then its name.
+    pub fn declare_function(
+        &mut self,
+        alloc: Global,
+        on: Texts,
+        head: &Head,
+    ) -> Result<(), DeclarationFault>
+        ensures { IsBehind self.old (of_head (head_tree (texts on.entry) head.now)) self.new result }
+    {
+        let words = enumerated(alloc, on, self, &head.specifiers)?;
+        self.add_enumerators(alloc, &words)?;
+        self.add_declarator(alloc, is_typedef(&head.specifiers), &head.declarator)?;
         Ok(())
     }
 }

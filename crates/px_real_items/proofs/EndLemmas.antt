@@ -1,0 +1,131 @@
+-- How the tokens of an item end: what is read backwards is what the grammar has at the end.
+use Rattle.std.proofs.Common.{◌≡◌, ℕ, zero, suc, ◌+◌, ◌-◌, ◌<◌, List, [], ◌∷◌, ◌++◌, length, take, drop, get_or, map, reverse, Bool, true, false, Option, Some, None, is_some, if◌then◌else◌, refl, ap, sym, subst, ◌∙◌, append_assoc, length-append, arith}
+use Rattle.std.proofs.lemmas.List.{take_more, map_push, reverse-append, reverse-reverse, length-reverse, take-append-le, take_all}
+use Rattle.px_real_expressions.specs.declared.terminal.Terminal.{Terminal}
+use Rattle.px_real_expressions.specs.declared.terminal.Terminal.TheVariants as T
+use Rattle.px_real_expressions.specs.Lexemes.{Lexeme, same, front}
+use Rattle.px_real_expressions.specs.Held.{closing, closes_something, Balanced, no_token, a_plain, a_group}
+use Rattle.px_real_expressions.specs.Grammar.{Between, between}
+use Rattle.px_real_expressions.proofs.Tools.{front_is, front_here}
+use Rattle.px_real_statements.specs.StatementTree.{StatementTree}
+use Rattle.px_real_statements.specs.Grammar.{IsBody}
+use Rattle.px_real_statements.proofs.StatementExact.{items_balanced, statement_at_exact}
+use Rattle.px_real_blocks.specs.Parts.{nesting_limit, IsBracedBody}
+use Rattle.px_real_items.specs.Ends.{nesting, go_on, opening_at, body_start, end_by, end_of}
+use Rattle.px_real_items.specs.Trees.{all_but_last}
+use Rattle.px_real_items.specs.declared.ends.End.{End}
+use Rattle.px_real_items.specs.declared.ends.End.TheVariants as E
+
+-- ---- lists that are read backwards
+
+pub last_first : {A B : Type 0} (f : A → B) (xs : List A) (i : ℕ) (d : A) → i < length xs → reverse (map f (take (i + 1) xs)) ≡ f (get_or xs i d) ∷ reverse (map f (take i xs))
+last_first f xs i d lt = ap (λ z. reverse (map f z)) (take_more xs i d lt) ∙ ap reverse (map_push f (take i xs) (get_or xs i d)) ∙ reverse-append (map f (take i xs)) (f (get_or xs i d) ∷ [])
+
+turned : {A : Type 0} (x : A) (xs rest : List A) → reverse (x ∷ xs) ++ rest ≡ reverse xs ++ x ∷ rest
+turned x xs rest = ap (λ z. z ++ rest) (reverse-append (x ∷ []) xs) ∙ append_assoc (reverse xs) (x ∷ []) rest
+
+-- what stands between two, and something before them
+turned_pair : {A : Type 0} (o c : A) (xs ys rest : List A) → reverse (o ∷ xs ++ c ∷ ys) ++ rest ≡ reverse ys ++ c ∷ (reverse xs ++ o ∷ rest)
+turned_pair o c xs ys rest =
+    turned o (xs ++ c ∷ ys) rest
+    ∙ ap (λ z. z ++ o ∷ rest) (reverse-append xs (c ∷ ys))
+    ∙ append_assoc (reverse (c ∷ ys)) (reverse xs) (o ∷ rest)
+    ∙ turned c ys (reverse xs ++ o ∷ rest)
+
+-- ---- over brackets that match
+
+step : (t : Lexeme) (n : ℕ) (ts : List Lexeme) (k : Terminal) → t.terminal ≡ k → opening_at n (t ∷ ts) ≡ go_on (nesting k n) (length ts) (λ m. opening_at m ts)
+unfolding opening_at
+step t n ts k h = ap (λ z. go_on (nesting z n) (length ts) (λ m. opening_at m ts)) h
+
+plain_passes : (k : Terminal) (n at : ℕ) (next : ℕ → Option ℕ) → closing k ≡ None → closes_something k ≡ false → go_on (nesting k (suc n)) at next ≡ next (suc n)
+plain_passes T.CloseBrace n at next o s = absurd cc
+plain_passes T.OpenBrace n at next o s = absurd cc
+plain_passes _ n at next o s = refl
+
+abbrev Passes : List Lexeme → Type 0
+Passes ts = (n : ℕ) (rest : List Lexeme) → opening_at (suc n) (reverse ts ++ rest) ≡ opening_at (suc n) rest
+
+pair_passes : (k j : Terminal) (o c : Lexeme) (ts : List Lexeme) → o.terminal ≡ k → c.terminal ≡ j → closing k ≡ Some j → Passes ts → (n : ℕ) (rest : List Lexeme) → opening_at (suc n) (c ∷ (reverse ts ++ o ∷ rest)) ≡ opening_at (suc n) rest
+pair_passes T.OpenParenthesis j o c ts ko kc h inside n rest =
+    let e : j ≡ T.CloseParenthesis = cc in
+    step c (suc n) (reverse ts ++ o ∷ rest) T.CloseParenthesis (kc ∙ e) ∙ inside n (o ∷ rest) ∙ step o (suc n) rest T.OpenParenthesis ko
+pair_passes T.OpenBracket j o c ts ko kc h inside n rest =
+    let e : j ≡ T.CloseBracket = cc in
+    step c (suc n) (reverse ts ++ o ∷ rest) T.CloseBracket (kc ∙ e) ∙ inside n (o ∷ rest) ∙ step o (suc n) rest T.OpenBracket ko
+pair_passes T.OpenBrace j o c ts ko kc h inside n rest =
+    let e : j ≡ T.CloseBrace = cc in
+    step c (suc n) (reverse ts ++ o ∷ rest) T.CloseBrace (kc ∙ e) ∙ inside (suc n) (o ∷ rest) ∙ step o (suc (suc n)) rest T.OpenBrace ko
+pair_passes _ j o c ts ko kc h inside n rest = absurd cc
+
+passes : {ts : List Lexeme} → Balanced ts → Passes ts
+passes (no_token e) n rest = rw e refl
+passes (a_plain {t = t} {ts1 = ts1} o s m parts) n rest =
+    ap (λ z. opening_at (suc n) (reverse z ++ rest)) parts
+    ∙ ap (opening_at (suc n)) (turned t ts1 rest)
+    ∙ passes m n (t ∷ rest)
+    ∙ step t (suc n) rest t.terminal refl
+    ∙ plain_passes t.terminal n (length rest) (λ m. opening_at m rest) o s
+passes (a_group {o = o} c {k = k} {ts1 = ts1} {ts2 = ts2} h m kc m2 parts) n rest =
+    ap (λ z. opening_at (suc n) (reverse z ++ rest)) parts
+    ∙ ap (opening_at (suc n)) (turned_pair o c ts1 ts2 rest)
+    ∙ passes m2 n (c ∷ (reverse ts1 ++ o ∷ rest))
+    ∙ pair_passes o.terminal k o c ts1 refl kc h (passes m) n rest
+
+-- ---- a body
+
+pub last_of_body : (ts1 ts2 : List Lexeme) (ss : List StatementTree) → IsBracedBody ts2 ss → (o c : Lexeme) × (a : List Lexeme) × (o.terminal ≡ T.OpenBrace) × (c.terminal ≡ T.CloseBrace) × Balanced a × (reverse (ts1 ++ ts2) ≡ c ∷ (reverse a ++ o ∷ reverse ts1))
+last_of_body ts1 ts2 ss b = by b.0 b.1
+  where
+    by : (o : Lexeme) → Between T.OpenBrace T.CloseBrace (IsBody nesting_limit) ts2 o ss → (o c : Lexeme) × (a : List Lexeme) × (o.terminal ≡ T.OpenBrace) × (c.terminal ≡ T.CloseBrace) × Balanced a × (reverse (ts1 ++ ts2) ≡ c ∷ (reverse a ++ o ∷ reverse ts1))
+    by o (between c {ts1 = a} ko kc g parts) =
+        (o, c, a, ko, kc, items_balanced (statement_at_exact nesting_limit) g,
+        ap (λ z. reverse (ts1 ++ z)) parts ∙ reverse-append ts1 (o ∷ a ++ c ∷ []) ∙ turned_pair o c a [] (reverse ts1))
+
+no_semicolon : (c : Lexeme) (ts : List Lexeme) → c.terminal ≡ T.CloseBrace → front T.Semicolon (c ∷ ts) ≡ None
+no_semicolon c ts k = ap (λ z. if same z T.Semicolon then Some (c, ts) else None) k
+
+-- it begins where it begins
+pub body_there : (ts ts1 ts2 : List Lexeme) (ss : List StatementTree) → IsBracedBody ts2 ss → ts ≡ ts1 ++ ts2 → end_of ts ≡ E.Body (length ts1)
+body_there ts ts1 ts2 ss b parts =
+    let w = last_of_body ts1 ts2 ss b in
+    let o = w.0 in
+    let c = w.1 in
+    let a = w.2 in
+    let turn : reverse ts ≡ c ∷ (reverse a ++ o ∷ reverse ts1) = ap reverse parts ∙ w.6 in
+    let starts : opening_at 0 (c ∷ (reverse a ++ o ∷ reverse ts1)) ≡ Some (length (reverse ts1)) =
+        step c 0 (reverse a ++ o ∷ reverse ts1) T.CloseBrace w.4 ∙ passes w.5 0 (o ∷ reverse ts1) ∙ step o 1 (reverse ts1) T.OpenBrace w.3 in
+    ap (λ z. end_by (is_some (front T.Semicolon z)) (opening_at 0 z)) turn
+    ∙ ap (λ z. end_by (is_some z) (opening_at 0 (c ∷ (reverse a ++ o ∷ reverse ts1)))) (no_semicolon c (reverse a ++ o ∷ reverse ts1) w.4)
+    ∙ ap (end_by false) starts
+    ∙ ap E.Body (length-reverse ts1)
+
+-- ---- a semicolon
+
+pub semicolon_there : (ts ts1 : List Lexeme) (e : Lexeme) → e.terminal ≡ T.Semicolon → ts ≡ ts1 ++ e ∷ [] → end_of ts ≡ E.Semicolon
+semicolon_there ts ts1 e k parts =
+    let turn : reverse ts ≡ e ∷ reverse ts1 = ap reverse parts ∙ reverse-append ts1 (e ∷ []) in
+    ap (λ z. end_by (is_some (front T.Semicolon z)) (opening_at 0 z)) turn ∙ ap (λ z. end_by (is_some z) (opening_at 0 (e ∷ reverse ts1))) (front_here T.Semicolon e (reverse ts1) k)
+
+but_last : (xs : List Lexeme) (e : Lexeme) → all_but_last (xs ++ e ∷ []) ≡ xs
+but_last xs e =
+    let n : length (xs ++ e ∷ []) - 1 ≡ length xs = omega (arith, length-append xs (e ∷ [])) in
+    ap (λ z. take z (xs ++ e ∷ [])) n ∙ take-append-le (length xs) xs (e ∷ []) (omega arith) ∙ take_all (length xs) xs (omega arith)
+
+pub before_semicolon : (ts ts1 : List Lexeme) (e : Lexeme) → ts ≡ ts1 ++ e ∷ [] → ts1 ≡ all_but_last ts
+before_semicolon ts ts1 e parts = sym (ap all_but_last parts ∙ but_last ts1 e)
+
+found_semicolon : (b : Bool) (start : Option ℕ) → end_by b start ≡ E.Semicolon → b ≡ true
+found_semicolon true start h = refl
+found_semicolon false (Some n) h = absurd cc
+found_semicolon false None h = absurd cc
+
+pub ends_so : (ts : List Lexeme) → end_of ts ≡ E.Semicolon → (e : Lexeme) × (e.terminal ≡ T.Semicolon) × (ts ≡ all_but_last ts ++ e ∷ [])
+ends_so ts h = by (front T.Semicolon (reverse ts)) refl (found_semicolon (is_some (front T.Semicolon (reverse ts))) (body_start ts) h)
+  where
+    by : (o : Option (Lexeme × List Lexeme)) → front T.Semicolon (reverse ts) ≡ o → is_some o ≡ true → (e : Lexeme) × (e.terminal ≡ T.Semicolon) × (ts ≡ all_but_last ts ++ e ∷ [])
+    by None e g = absurd cc
+    by (Some x) e g =
+        let f = front_is T.Semicolon (reverse ts) x e in
+        let all : ts ≡ reverse x.1 ++ x.0 ∷ [] = sym (reverse-reverse ts) ∙ ap reverse f.1 ∙ reverse-append (x.0 ∷ []) x.1 in
+        (x.0, f.0, all ∙ ap (λ z. z ++ x.0 ∷ []) (before_semicolon ts (reverse x.1) x.0 all))
