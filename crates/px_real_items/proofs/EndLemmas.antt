@@ -1,6 +1,6 @@
 -- How the tokens of an item end: what is read backwards is what the grammar has at the end.
-use Rattle.std.proofs.Common.{◌≡◌, ℕ, zero, suc, ◌+◌, ◌-◌, ◌<◌, List, [], ◌∷◌, ◌++◌, length, take, drop, get_or, map, reverse, Bool, true, false, Option, Some, None, is_some, if◌then◌else◌, refl, ap, sym, subst, ◌∙◌, append_assoc, length-append, arith}
-use Rattle.std.proofs.lemmas.List.{take_more, map_push, reverse-append, reverse-reverse, length-reverse, take-append-le, take_all}
+use Rattle.std.proofs.Common.{◌≡◌, ℕ, zero, suc, ◌+◌, ◌-◌, ◌==◌, ◌<◌, ◌≤◌, List, [], ◌∷◌, ◌++◌, length, take, drop, get_or, map, reverse, Bool, true, false, Option, Some, None, is_some, if◌then◌else◌, refl, ap, sym, subst, ◌∙◌, append_assoc, length-append, length-take, arith}
+use Rattle.std.proofs.lemmas.List.{take_more, map_push, reverse-append, reverse-reverse, length-reverse, length-map, take-append-le, take_all}
 use Rattle.px_real_expressions.specs.declared.terminal.Terminal.{Terminal}
 use Rattle.px_real_expressions.specs.declared.terminal.Terminal.TheVariants as T
 use Rattle.px_real_expressions.specs.Lexemes.{Lexeme, same, front}
@@ -13,6 +13,10 @@ use Rattle.px_real_statements.proofs.StatementExact.{items_balanced, statement_a
 use Rattle.px_real_blocks.specs.Parts.{nesting_limit, IsBracedBody}
 use Rattle.px_real_items.specs.Ends.{nesting, go_on, opening_at, body_start, end_by, end_of}
 use Rattle.px_real_items.specs.Trees.{all_but_last}
+use Rattle.px_real_symbols.specs.declared.symbol.Symbol.{Symbol}
+use Rattle.px_real_symbols.proofs.FrontLemmas.{blank}
+use Rattle.px_real_items.specs.declared.ends.Nesting.{Nesting}
+use Rattle.px_real_items.specs.declared.ends.Nesting.TheVariants as N
 use Rattle.px_real_items.specs.declared.ends.End.{End}
 use Rattle.px_real_items.specs.declared.ends.End.TheVariants as E
 
@@ -43,6 +47,13 @@ plain_passes T.CloseBrace n at next o s = absurd cc
 plain_passes T.OpenBrace n at next o s = absurd cc
 plain_passes _ n at next o s = refl
 
+-- a brace that opens one that isn't the first
+opens_later : (n at : ℕ) (next : ℕ → Option ℕ) → go_on (nesting T.OpenBrace (suc (suc n))) at next ≡ next (suc n)
+opens_later n at next = let e : suc (suc n) - 1 ≡ suc n = omega arith in ap next e
+
+closes_one : (n at : ℕ) (next : ℕ → Option ℕ) → go_on (nesting T.CloseBrace n) at next ≡ next (suc n)
+closes_one n at next = let e : n + 1 ≡ suc n = omega arith in ap next e
+
 abbrev Passes : List Lexeme → Type 0
 Passes ts = (n : ℕ) (rest : List Lexeme) → opening_at (suc n) (reverse ts ++ rest) ≡ opening_at (suc n) rest
 
@@ -55,7 +66,9 @@ pair_passes T.OpenBracket j o c ts ko kc h inside n rest =
     step c (suc n) (reverse ts ++ o ∷ rest) T.CloseBracket (kc ∙ e) ∙ inside n (o ∷ rest) ∙ step o (suc n) rest T.OpenBracket ko
 pair_passes T.OpenBrace j o c ts ko kc h inside n rest =
     let e : j ≡ T.CloseBrace = cc in
-    step c (suc n) (reverse ts ++ o ∷ rest) T.CloseBrace (kc ∙ e) ∙ inside (suc n) (o ∷ rest) ∙ step o (suc (suc n)) rest T.OpenBrace ko
+    step c (suc n) (reverse ts ++ o ∷ rest) T.CloseBrace (kc ∙ e) ∙ closes_one (suc n) (length (reverse ts ++ o ∷ rest)) (λ m. opening_at m (reverse ts ++ o ∷ rest))
+    ∙ inside (suc n) (o ∷ rest)
+    ∙ step o (suc (suc n)) rest T.OpenBrace ko ∙ opens_later n (length rest) (λ m. opening_at m rest)
 pair_passes _ j o c ts ko kc h inside n rest = absurd cc
 
 passes : {ts : List Lexeme} → Balanced ts → Passes ts
@@ -94,7 +107,9 @@ body_there ts ts1 ts2 ss b parts =
     let a = w.2 in
     let turn : reverse ts ≡ c ∷ (reverse a ++ o ∷ reverse ts1) = ap reverse parts ∙ w.6 in
     let starts : opening_at 0 (c ∷ (reverse a ++ o ∷ reverse ts1)) ≡ Some (length (reverse ts1)) =
-        step c 0 (reverse a ++ o ∷ reverse ts1) T.CloseBrace w.4 ∙ passes w.5 0 (o ∷ reverse ts1) ∙ step o 1 (reverse ts1) T.OpenBrace w.3 in
+        step c 0 (reverse a ++ o ∷ reverse ts1) T.CloseBrace w.4 ∙ closes_one 0 (length (reverse a ++ o ∷ reverse ts1)) (λ m. opening_at m (reverse a ++ o ∷ reverse ts1))
+        ∙ passes w.5 0 (o ∷ reverse ts1)
+        ∙ step o 1 (reverse ts1) T.OpenBrace w.3 in
     ap (λ z. end_by (is_some (front T.Semicolon z)) (opening_at 0 z)) turn
     ∙ ap (λ z. end_by (is_some z) (opening_at 0 (c ∷ (reverse a ++ o ∷ reverse ts1)))) (no_semicolon c (reverse a ++ o ∷ reverse ts1) w.4)
     ∙ ap (end_by false) starts
@@ -129,3 +144,62 @@ ends_so ts h = by (front T.Semicolon (reverse ts)) refl (found_semicolon (is_som
         let f = front_is T.Semicolon (reverse ts) x e in
         let all : ts ≡ reverse x.1 ++ x.0 ∷ [] = sym (reverse-reverse ts) ∙ ap reverse f.1 ∙ reverse-append (x.0 ∷ []) x.1 in
         (x.0, f.0, all ∙ ap (λ z. z ++ x.0 ∷ []) (before_semicolon ts (reverse x.1) x.0 all))
+
+-- ---- the scan
+
+deepens_by : (z one : Bool) (n m : ℕ) → N.Within m ≡ (if z then N.Outside else (if one then N.Opens else N.Within (n - 1))) → m ≤ n + 1
+deepens_by true one n m h = absurd cc
+deepens_by false true n m h = absurd cc
+deepens_by false false n m h = let e : m ≡ n - 1 = cc in omega (arith, e)
+
+stays_by : (z : Bool) (n m : ℕ) → N.Within m ≡ (if z then N.Outside else N.Within n) → m ≤ n + 1
+stays_by true n m h = absurd cc
+stays_by false n m h = let e : m ≡ n = cc in omega (arith, e)
+
+pub deepens : (k : Terminal) (n m : ℕ) → N.Within m ≡ nesting k n → m ≤ n + 1
+deepens T.CloseBrace n m h = let e : m ≡ n + 1 = cc in omega (arith, e)
+deepens T.OpenBrace n m h = deepens_by (n == 0) (n == 1) n m h
+deepens _ n m h = stays_by (n == 0) n m h
+
+front_some : (t : Lexeme) (ts : List Lexeme) → is_some (front T.Semicolon (t ∷ ts)) ≡ same t.terminal T.Semicolon
+front_some t ts = by (same t.terminal T.Semicolon)
+  where
+    by : (b : Bool) → is_some (if b then Some (t, ts) else None) ≡ b
+    by true = refl
+    by false = refl
+
+module _ (f : Symbol → Lexeme) (xs : List Symbol) where
+  abbrev Left : ℕ → List Lexeme
+  Left i = reverse (map f (take i xs))
+
+  pub whole_left : (n : ℕ) → length xs ≤ n → opening_at 0 (reverse (map f (take n xs))) ≡ body_start (map f xs)
+  whole_left n le = ap (λ z. opening_at 0 (reverse (map f z))) (take_all n xs le)
+
+  one_left : (i n : ℕ) (r : Nesting) → i < length xs → r ≡ nesting (f (get_or xs i blank)).terminal n → opening_at n (Left (i + 1)) ≡ go_on r (length (Left i)) (λ m. opening_at m (Left i))
+  one_left i n r lt h =
+      ap (opening_at n) (last_first f xs i blank lt) ∙ step (f (get_or xs i blank)) n (Left i) (f (get_or xs i blank)).terminal refl ∙ ap (λ z. go_on z (length (Left i)) (λ m. opening_at m (Left i))) (sym h)
+
+  pub goes_on_left : (i n m : ℕ) {o : Option ℕ} → i < length xs → N.Within m ≡ nesting (f (get_or xs i blank)).terminal n → opening_at n (reverse (map f (take (i + 1) xs))) ≡ o → opening_at m (reverse (map f (take i xs))) ≡ o
+  goes_on_left i n m lt h so_far = sym (one_left i n (N.Within m) lt h) ∙ so_far
+
+  pub opens_there : (i n : ℕ) {o : Option ℕ} → i < length xs → N.Opens ≡ nesting (f (get_or xs i blank)).terminal n → opening_at n (reverse (map f (take (i + 1) xs))) ≡ o → Some i ≡ o
+  opens_there i n lt h so_far =
+      let count : length (Left i) ≡ i = length-reverse (map f (take i xs)) ∙ length-map (take i xs) f ∙ length-take i xs (omega arith) in
+      sym (ap Some count) ∙ sym (one_left i n N.Opens lt h) ∙ so_far
+
+  pub outside_there : (i n : ℕ) {o : Option ℕ} → i < length xs → N.Outside ≡ nesting (f (get_or xs i blank)).terminal n → opening_at n (reverse (map f (take (i + 1) xs))) ≡ o → None ≡ o
+  outside_there i n lt h so_far = sym (one_left i n N.Outside lt h) ∙ so_far
+
+  pub none_left : (i n : ℕ) {o : Option ℕ} → i ≡ 0 → opening_at n (reverse (map f (take i xs))) ≡ o → None ≡ o
+  unfolding opening_at
+  none_left i n z so_far = sym (ap (λ j. opening_at n (reverse (map f (take j xs)))) z) ∙ so_far
+
+  -- the last token
+  pub last_is : (i : ℕ) → i + 1 ≡ length xs → is_some (front T.Semicolon (reverse (map f xs))) ≡ same (f (get_or xs i blank)).terminal T.Semicolon
+  last_is i e =
+      let lt : i < length xs = omega (arith, e) in
+      let all : reverse (map f xs) ≡ f (get_or xs i blank) ∷ Left i = ap (λ z. reverse (map f z)) (sym (take_all (i + 1) xs (omega (arith, e)))) ∙ last_first f xs i blank lt in
+      ap (λ z. is_some (front T.Semicolon z)) all ∙ front_some (f (get_or xs i blank)) (Left i)
+
+  pub no_last : length xs ≤ 0 → is_some (front T.Semicolon (reverse (map f xs))) ≡ false
+  no_last le = ap (λ z. is_some (front T.Semicolon (reverse (map f z)))) (sym (take_all 0 xs le))

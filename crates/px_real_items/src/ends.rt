@@ -39,15 +39,22 @@ fn nesting(terminal: Terminal, closed: usize) -> Nesting
 {
     match terminal {
         Terminal::CloseBrace => Nesting::Within(closed + 1),
-        Terminal::OpenBrace => match closed {
-            0 => Nesting::Outside,
-            1 => Nesting::Opens,
-            _ => Nesting::Within(closed - 1),
-        },
-        _ => match closed {
-            0 => Nesting::Outside,
-            _ => Nesting::Within(closed),
-        },
+        Terminal::OpenBrace => {
+            if closed == 0 {
+                Nesting::Outside
+            } else if closed == 1 {
+                Nesting::Opens
+            } else {
+                Nesting::Within(closed - 1)
+            }
+        }
+        _ => {
+            if closed == 0 {
+                Nesting::Outside
+            } else {
+                Nesting::Within(closed)
+            }
+        }
     }
 }
 
