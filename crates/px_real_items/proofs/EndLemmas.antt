@@ -1,6 +1,6 @@
 -- How the tokens of an item end: what is read backwards is what the grammar has at the end.
-use Rattle.std.proofs.Common.{◌≡◌, ℕ, zero, suc, ◌+◌, ◌-◌, ◌==◌, ◌<◌, ◌≤◌, List, [], ◌∷◌, ◌++◌, length, take, drop, get_or, map, reverse, Bool, true, false, Option, Some, None, is_some, if◌then◌else◌, refl, ap, sym, subst, ◌∙◌, append_assoc, length-append, length-take, arith}
-use Rattle.std.proofs.lemmas.List.{take_more, map_push, reverse-append, reverse-reverse, length-reverse, length-map, take-append-le, take_all}
+use Rattle.std.proofs.Common.{◌≡◌, ℕ, zero, suc, ◌+◌, ◌-◌, ◌<◌, ◌≤◌, List, [], ◌∷◌, ◌++◌, length, take, drop, get_or, map, reverse, Bool, true, false, Option, Some, None, is_some, if◌then◌else◌, refl, ap, sym, subst, ◌∙◌, append_assoc, length-append, arith}
+use Rattle.std.proofs.lemmas.List.{take_more, map_push, reverse-append, reverse-reverse, length-reverse, length-map, length-take-le, take-append-le, take_all}
 use Rattle.px_real_expressions.specs.declared.terminal.Terminal.{Terminal}
 use Rattle.px_real_expressions.specs.declared.terminal.Terminal.TheVariants as T
 use Rattle.px_real_expressions.specs.Lexemes.{Lexeme, same, front}
@@ -8,10 +8,12 @@ use Rattle.px_real_expressions.specs.Held.{closing, closes_something, Balanced, 
 use Rattle.px_real_expressions.specs.Grammar.{Between, between}
 use Rattle.px_real_expressions.proofs.Tools.{front_is, front_here}
 use Rattle.px_real_statements.specs.StatementTree.{StatementTree}
-use Rattle.px_real_statements.specs.Grammar.{IsBody}
-use Rattle.px_real_statements.proofs.StatementExact.{items_balanced, statement_at_exact}
+use Rattle.px_real_statements.specs.Grammar.{Items, no_item, an_item, an_unread, IsStatement, IsBody}
+use Rattle.px_real_statements.proofs.Balance.{balanced_both}
+use Rattle.px_real_statements.proofs.LabelExact.{front_other}
+use Rattle.px_real_statements.proofs.StatementExact.{statement_at_exact}
 use Rattle.px_real_blocks.specs.Parts.{nesting_limit, IsBracedBody}
-use Rattle.px_real_items.specs.Ends.{nesting, go_on, opening_at, body_start, end_by, end_of}
+use Rattle.px_real_items.specs.Ends.{opened, passed, nesting, go_on, opening_at, body_start, end_by, end_of}
 use Rattle.px_real_items.specs.Trees.{all_but_last}
 use Rattle.px_real_symbols.specs.declared.symbol.Symbol.{Symbol}
 use Rattle.px_real_symbols.proofs.FrontLemmas.{blank}
@@ -47,10 +49,6 @@ plain_passes T.CloseBrace n at next o s = absurd cc
 plain_passes T.OpenBrace n at next o s = absurd cc
 plain_passes _ n at next o s = refl
 
--- a brace that opens one that isn't the first
-opens_later : (n at : ℕ) (next : ℕ → Option ℕ) → go_on (nesting T.OpenBrace (suc (suc n))) at next ≡ next (suc n)
-opens_later n at next = let e : suc (suc n) - 1 ≡ suc n = omega arith in ap next e
-
 closes_one : (n at : ℕ) (next : ℕ → Option ℕ) → go_on (nesting T.CloseBrace n) at next ≡ next (suc n)
 closes_one n at next = let e : n + 1 ≡ suc n = omega arith in ap next e
 
@@ -68,7 +66,7 @@ pair_passes T.OpenBrace j o c ts ko kc h inside n rest =
     let e : j ≡ T.CloseBrace = cc in
     step c (suc n) (reverse ts ++ o ∷ rest) T.CloseBrace (kc ∙ e) ∙ closes_one (suc n) (length (reverse ts ++ o ∷ rest)) (λ m. opening_at m (reverse ts ++ o ∷ rest))
     ∙ inside (suc n) (o ∷ rest)
-    ∙ step o (suc (suc n)) rest T.OpenBrace ko ∙ opens_later n (length rest) (λ m. opening_at m rest)
+    ∙ step o (suc (suc n)) rest T.OpenBrace ko
 pair_passes _ j o c ts ko kc h inside n rest = absurd cc
 
 passes : {ts : List Lexeme} → Balanced ts → Passes ts
@@ -87,16 +85,21 @@ passes (a_group {o = o} c {k = k} {ts1 = ts1} {ts2 = ts2} h m kc m2 parts) n res
 
 -- ---- a body
 
-pub last_of_body : (ts1 ts2 : List Lexeme) (ss : List StatementTree) → IsBracedBody ts2 ss → (o c : Lexeme) × (a : List Lexeme) × (o.terminal ≡ T.OpenBrace) × (c.terminal ≡ T.CloseBrace) × Balanced a × (reverse (ts1 ++ ts2) ≡ c ∷ (reverse a ++ o ∷ reverse ts1))
+pub body_balanced : {d : ℕ} {ts : List Lexeme} {ss : List StatementTree} → Items (IsStatement d) ts ss → Balanced ts
+body_balanced (no_item h g) = no_token h
+body_balanced {d = d} (an_item g f m parts e) = rw parts (balanced_both ((statement_at_exact d).balanced g) (body_balanced m))
+body_balanced (an_unread m none parts e) = m
+
+last_of_body : (ts1 ts2 : List Lexeme) (ss : List StatementTree) → IsBracedBody ts2 ss → (o : Lexeme) × (c : Lexeme) × (a : List Lexeme) × (o.terminal ≡ T.OpenBrace) × (c.terminal ≡ T.CloseBrace) × Balanced a × (reverse (ts1 ++ ts2) ≡ c ∷ (reverse a ++ o ∷ reverse ts1))
 last_of_body ts1 ts2 ss b = by b.0 b.1
   where
-    by : (o : Lexeme) → Between T.OpenBrace T.CloseBrace (IsBody nesting_limit) ts2 o ss → (o c : Lexeme) × (a : List Lexeme) × (o.terminal ≡ T.OpenBrace) × (c.terminal ≡ T.CloseBrace) × Balanced a × (reverse (ts1 ++ ts2) ≡ c ∷ (reverse a ++ o ∷ reverse ts1))
+    by : (o : Lexeme) → Between T.OpenBrace T.CloseBrace (IsBody nesting_limit) ts2 o ss → (o : Lexeme) × (c : Lexeme) × (a : List Lexeme) × (o.terminal ≡ T.OpenBrace) × (c.terminal ≡ T.CloseBrace) × Balanced a × (reverse (ts1 ++ ts2) ≡ c ∷ (reverse a ++ o ∷ reverse ts1))
     by o (between c {ts1 = a} ko kc g parts) =
-        (o, c, a, ko, kc, items_balanced (statement_at_exact nesting_limit) g,
+        (o, c, a, ko, kc, body_balanced g,
         ap (λ z. reverse (ts1 ++ z)) parts ∙ reverse-append ts1 (o ∷ a ++ c ∷ []) ∙ turned_pair o c a [] (reverse ts1))
 
 no_semicolon : (c : Lexeme) (ts : List Lexeme) → c.terminal ≡ T.CloseBrace → front T.Semicolon (c ∷ ts) ≡ None
-no_semicolon c ts k = ap (λ z. if same z T.Semicolon then Some (c, ts) else None) k
+no_semicolon c ts k = front_other T.CloseBrace T.Semicolon c ts k refl
 
 -- it begins where it begins
 pub body_there : (ts ts1 ts2 : List Lexeme) (ss : List StatementTree) → IsBracedBody ts2 ss → ts ≡ ts1 ++ ts2 → end_of ts ≡ E.Body (length ts1)
@@ -147,19 +150,38 @@ ends_so ts h = by (front T.Semicolon (reverse ts)) refl (found_semicolon (is_som
 
 -- ---- the scan
 
-deepens_by : (z one : Bool) (n m : ℕ) → N.Within m ≡ (if z then N.Outside else (if one then N.Opens else N.Within (n - 1))) → m ≤ n + 1
-deepens_by true one n m h = absurd cc
-deepens_by false true n m h = absurd cc
-deepens_by false false n m h = let e : m ≡ n - 1 = cc in omega (arith, e)
+opened_within : (n m : ℕ) → N.Within m ≡ opened n → m ≤ n + 1
+opened_within zero m h = absurd cc
+opened_within (suc zero) m h = absurd cc
+opened_within (suc (suc n)) m h = let e : m ≡ suc n = cc in omega (arith, e)
 
-stays_by : (z : Bool) (n m : ℕ) → N.Within m ≡ (if z then N.Outside else N.Within n) → m ≤ n + 1
-stays_by true n m h = absurd cc
-stays_by false n m h = let e : m ≡ n = cc in omega (arith, e)
+passed_within : (n m : ℕ) → N.Within m ≡ passed n → m ≤ n + 1
+passed_within zero m h = absurd cc
+passed_within (suc n) m h = let e : m ≡ suc n = cc in omega (arith, e)
 
 pub deepens : (k : Terminal) (n m : ℕ) → N.Within m ≡ nesting k n → m ≤ n + 1
 deepens T.CloseBrace n m h = let e : m ≡ n + 1 = cc in omega (arith, e)
-deepens T.OpenBrace n m h = deepens_by (n == 0) (n == 1) n m h
-deepens _ n m h = stays_by (n == 0) n m h
+deepens T.OpenBrace n m h = opened_within n m h
+deepens _ n m h = passed_within n m h
+
+-- by numbers
+pub opened_none : (n : ℕ) → n ≡ 0 → N.Outside ≡ opened n
+opened_none n z = rw z refl
+
+pub opened_one : (n : ℕ) → n ≡ 1 → N.Opens ≡ opened n
+opened_one n z = rw z refl
+
+pub opened_more : (n : ℕ) → (n ≡ 0 → ⊥) → (n ≡ 1 → ⊥) → N.Within (n - 1) ≡ opened n
+opened_more zero a b = absurd (a refl)
+opened_more (suc zero) a b = absurd (b refl)
+opened_more (suc (suc n)) a b = let e : suc (suc n) - 1 ≡ suc n = omega arith in ap N.Within e
+
+pub passed_none : (n : ℕ) → n ≡ 0 → N.Outside ≡ passed n
+passed_none n z = rw z refl
+
+pub passed_more : (n : ℕ) → (n ≡ 0 → ⊥) → N.Within n ≡ passed n
+passed_more zero a = absurd (a refl)
+passed_more (suc n) a = refl
 
 front_some : (t : Lexeme) (ts : List Lexeme) → is_some (front T.Semicolon (t ∷ ts)) ≡ same t.terminal T.Semicolon
 front_some t ts = by (same t.terminal T.Semicolon)
@@ -184,7 +206,7 @@ module _ (f : Symbol → Lexeme) (xs : List Symbol) where
 
   pub opens_there : (i n : ℕ) {o : Option ℕ} → i < length xs → N.Opens ≡ nesting (f (get_or xs i blank)).terminal n → opening_at n (reverse (map f (take (i + 1) xs))) ≡ o → Some i ≡ o
   opens_there i n lt h so_far =
-      let count : length (Left i) ≡ i = length-reverse (map f (take i xs)) ∙ length-map (take i xs) f ∙ length-take i xs (omega arith) in
+      let count : length (Left i) ≡ i = length-reverse (map f (take i xs)) ∙ length-map (take i xs) f ∙ length-take-le i xs (omega arith) in
       sym (ap Some count) ∙ sym (one_left i n N.Opens lt h) ∙ so_far
 
   pub outside_there : (i n : ℕ) {o : Option ℕ} → i < length xs → N.Outside ≡ nesting (f (get_or xs i blank)).terminal n → opening_at n (reverse (map f (take (i + 1) xs))) ≡ o → None ≡ o

@@ -7,7 +7,6 @@ use Rattle.px_real_expressions.specs.Grammar.{Between, between, IsHeld, is_held}
 use Rattle.px_real_expressions.proofs.Tools.{both_are}
 use Rattle.px_real_statements.specs.StatementTree.{StatementTree}
 use Rattle.px_real_statements.specs.Grammar.{IsBody}
-use Rattle.px_real_statements.proofs.StatementExact.{items_balanced, statement_at_exact}
 use Rattle.px_real_declarations.specs.DeclarationTree.{DeclarationTree, HeadTree}
 use Rattle.px_real_declarations.specs.Grammar.{Types, IsDeclaration, IsHead}
 use Rattle.px_real_declarations.specs.Names.{Names, is_type}
@@ -24,7 +23,7 @@ use Rattle.px_real_items.specs.Externals.{ExternalTree, declares, defines, IsExt
 use Rattle.px_real_items.specs.Trees.{all_but_last, itself, NoneInScope, Neither, NoFunction}
 use Rattle.px_real_items.specs.declared.ends.End.{End}
 use Rattle.px_real_items.specs.declared.ends.End.TheVariants as E
-use Rattle.px_real_items.proofs.EndLemmas.{body_there, semicolon_there, before_semicolon, ends_so}
+use Rattle.px_real_items.proofs.EndLemmas.{body_balanced, body_there, semicolon_there, before_semicolon, ends_so}
 
 -- ---- a tree, and what it brings into scope
 
@@ -58,7 +57,7 @@ pub no_body : (ts : List Lexeme) → ((o : Lexeme) (a : List Lexeme) → Between
 no_body ts h ss b = by b.0 b.1
   where
     by : (o : Lexeme) → Between T.OpenBrace T.CloseBrace (IsBody most_statements) ts o ss → ⊥
-    by o (between c {ts1 = a} ko kc g parts) = h o a (between c ko kc (is_held (items_balanced (statement_at_exact most_statements) g) refl) parts)
+    by o (between c {ts1 = a} ko kc g parts) = h o a (between c ko kc (is_held (body_balanced g) refl) parts)
 
 -- ---- a function
 

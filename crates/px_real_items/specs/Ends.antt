@@ -1,5 +1,5 @@
 -- How the tokens of an item end: with a semicolon, or with a body, which begins at the brace that the last token closes.
-use Rattle.std.specs.Prelude.{ℕ, ◌+◌, ◌-◌, ◌==◌, List, [], ◌∷◌, length, reverse, Bool, true, false, Option, Some, None, is_some, if◌then◌else◌}
+use Rattle.std.specs.Prelude.{ℕ, zero, suc, ◌+◌, List, [], ◌∷◌, length, reverse, Bool, true, false, Option, Some, None, is_some}
 use Rattle.px_real_expressions.specs.Lexemes.{Lexeme, front}
 use Rattle.px_real_expressions.specs.declared.terminal.Terminal.{Terminal}
 use Rattle.px_real_expressions.specs.declared.terminal.Terminal.TheVariants as T
@@ -10,10 +10,19 @@ use Rattle.px_real_items.specs.declared.ends.End.TheVariants as E
 
 -- what a token does, read backwards, where so many braces are closed behind it and not opened yet: so many are then, or it opens the first
 -- that is closed, or none is closed
+abbrev pub opened : ℕ → Nesting
+opened zero = N.Outside
+opened (suc zero) = N.Opens
+opened (suc (suc n)) = N.Within (suc n)
+
+abbrev pub passed : ℕ → Nesting
+passed zero = N.Outside
+passed (suc n) = N.Within (suc n)
+
 abbrev pub nesting : Terminal → ℕ → Nesting
 nesting T.CloseBrace n = N.Within (n + 1)
-nesting T.OpenBrace n = if n == 0 then N.Outside else (if n == 1 then N.Opens else N.Within (n - 1))
-nesting _ n = if n == 0 then N.Outside else N.Within n
+nesting T.OpenBrace n = opened n
+nesting _ n = passed n
 
 abbrev pub go_on : Nesting → ℕ → (ℕ → Option ℕ) → Option ℕ
 go_on (N.Within n) at next = next n

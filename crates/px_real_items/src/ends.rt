@@ -3,7 +3,7 @@ ghost use Rattle.px_real_expressions.specs.Lexemes.{front};
 ghost use Rattle.px_real_expressions.specs.declared.terminal.Terminal.TheVariants.{Semicolon};
 ghost use Rattle.px_real_symbols.specs.Symbols.{seen, lexemes};
 ghost use Rattle.px_real_blocks.specs.Parts.{no_types};
-ghost use Rattle.px_real_items.specs.Ends.{nesting, body_start, end_of};
+ghost use Rattle.px_real_items.specs.Ends.{opened, passed, nesting, body_start, end_of};
 
 use px_real_declaring::reading::NoTypes;
 use px_real_expressions::Terminal;
@@ -32,29 +32,38 @@ pub enum End {
     Neither,
 }
 
-// What a token does, where so many are.
+// What a brace that opens does, where so many are.
+fn opened(closed: usize) -> Nesting
+    ensures { result ≡ opened closed }
+{
+    if closed == 0 {
+        return Nesting::Outside;
+    }
+    if closed == 1 {
+        return Nesting::Opens;
+    }
+    Nesting::Within(closed - 1)
+}
+
+// What a token does that is no brace.
+fn passed(closed: usize) -> Nesting
+    ensures { result ≡ passed closed }
+{
+    if closed == 0 {
+        return Nesting::Outside;
+    }
+    Nesting::Within(closed)
+}
+
+// What a token does.
 fn nesting(terminal: Terminal, closed: usize) -> Nesting
     requires { closed < usize.MAX }
     ensures { result ≡ nesting terminal closed }
 {
     match terminal {
         Terminal::CloseBrace => Nesting::Within(closed + 1),
-        Terminal::OpenBrace => {
-            if closed == 0 {
-                Nesting::Outside
-            } else if closed == 1 {
-                Nesting::Opens
-            } else {
-                Nesting::Within(closed - 1)
-            }
-        }
-        _ => {
-            if closed == 0 {
-                Nesting::Outside
-            } else {
-                Nesting::Within(closed)
-            }
-        }
+        Terminal::OpenBrace => opened(closed),
+        _ => passed(closed),
     }
 }
 

@@ -1,7 +1,7 @@
 -- The names behind a declaration, as the code says them.
 use Rattle.std.specs.Prelude.{◌≡◌, ℕ, List, [], ◌∷◌, map, reverse, Bool, false, None, codes, Result, Ok, Err}
 use Rattle.std.specs.Str.{bytes_eq}
-use Rattle.px_real_declarations.specs.DeclarationTree.{SpecifierTree, keyword, DeclarationTree, declaration, HeadTree}
+use Rattle.px_real_declarations.specs.DeclarationTree.{SpecifierTree, keyword, DeclaratorTree, DeclaredTree, DeclarationTree, declaration, HeadTree}
 use Rattle.px_real_declarations.specs.Names.{Names, NamesAfter}
 use Rattle.px_real_declaring.specs.declared.reading.DeclarationFault.{DeclarationFault}
 use Rattle.px_real_declaring.specs.declared.reading.DeclarationFault.TheVariants as D
@@ -34,6 +34,10 @@ abbrev pub IsBehind : Names → DeclarationTree → Names → Result Unit Declar
 IsBehind names x after (Ok u) = Leaves names x after
 IsBehind names x after (Err e) = LeavesNone names x after e
 
+-- a declarator alone
+abbrev pub alone : DeclaratorTree → DeclaredTree
+alone d = record { before = []; declarator = d; label = None; after = []; value = None }
+
 -- what a function's head declares: one thing, as a declaration with its specifiers and its declarator would
 abbrev pub of_head : HeadTree → DeclarationTree
-of_head h = declaration h.specifiers (record { before = []; declarator = h.declarator; label = None; after = []; value = None } ∷ [])
+of_head h = declaration h.specifiers (alone h.declarator ∷ [])

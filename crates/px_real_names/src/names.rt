@@ -1,4 +1,5 @@
 ghost use Rattle.std.specs.Prelude.{◌≡◌, ◌∷◌, [], List, map, OnOk};
+ghost use Rattle.std.specs.Str.{bytes_eq};
 ghost use Rattle.px_real_expressions.specs.Lexemes.{Lexeme};
 ghost use Rattle.px_real_declarations.specs.Names as Scopes;
 ghost use Rattle.px_real_declaring.specs.Trees.{specifier_tree, declarator_tree, declared_tree, declaration_tree};
@@ -23,6 +24,13 @@ struct Entry {
     is_type: bool,
 }
 
+// Whether it is this word.
+fn is_named(entry: &Entry, word: &[u8]) -> bool
+    ensures { result ≡ bytes_eq word.now entry.now.name }
+{
+    word == entry.name.as_slice()
+}
+
 // Whether the nearest of these that is this word is a type's; the nearest is the last.
 fn is_type(entries: &[Entry], word: &[u8]) -> bool
     ensures { result ≡ Scopes.is_type (names_view entries.now) word.now }
@@ -30,7 +38,7 @@ fn is_type(entries: &[Entry], word: &[u8]) -> bool
     let mut at = entries.len();
     while at > 0 {
         at -= 1;
-        if entries[at].name.as_slice() == word {
+        if is_named(&entries[at], word) {
             return entries[at].is_type;
         }
     }

@@ -24,7 +24,7 @@ add_record-returns-in-Ok g t c =
 pub add_specifiers-loop-specifier-preserved : goal.add_specifiers-loop-specifier-preserved
 add_specifiers-loop-specifier-preserved g t c =
     let T = g.T.TypeNames.named c.args.types.now in
-    let one = enumerated_by T c.args.depth (specifier_tree (texts c.args.on) c.specifier-item.result.now) in
+    let one = enumerated_by T c.args.depth (specifier_tree (texts c.args.on) c.specifier-item.result) in
     let rest = of_each (enumerated_by T c.args.depth) (map (specifier_tree (texts c.args.on)) (drop (c.loop-specifier.specifier-index + 1) c.args.specifiers.now)) in
     adds_next c.loop-specifier.names.items c.add_specifier.new.names.items c.args.names.now.items one rest _ c.in_ok-add_specifier.ensures
     (ap (both (Some c.loop-specifier.names.items)) (sym (each_left (enumerated_by T c.args.depth) (specifier_tree (texts c.args.on)) c.args.specifiers.now c.loop-specifier.specifier-index c.specifier-item.result c.loop-specifier-test.true c.specifier-item.is))
@@ -33,7 +33,7 @@ add_specifiers-loop-specifier-preserved g t c =
 pub add_members-loop-member-preserved : goal.add_members-loop-member-preserved
 add_members-loop-member-preserved g t c =
     let T = g.T.TypeNames.named c.args.types.now in
-    let one = of_member (enumerated_by T c.args.depth) (declaration_tree (texts c.args.on) c.member-item.result.now) in
+    let one = of_member (enumerated_by T c.args.depth) (declaration_tree (texts c.args.on) c.member-item.result) in
     let rest = of_members (enumerated_by T c.args.depth) (map (declaration_tree (texts c.args.on)) (drop (c.loop-member.member-index + 1) c.args.members.now)) in
     adds_next c.loop-member.names.items c.add_member.new.names.items c.args.names.now.items one rest _ c.in_ok-add_member.ensures
     (ap (both (Some c.loop-member.names.items)) (sym (members_left (enumerated_by T c.args.depth) (declaration_tree (texts c.args.on)) c.args.members.now c.loop-member.member-index c.member-item.result c.loop-member-test.true c.member-item.is))
