@@ -13,7 +13,7 @@ use Rattle.px_real_statements.proofs.Balance.{balanced_both}
 use Rattle.px_real_statements.proofs.LabelExact.{front_other}
 use Rattle.px_real_statements.proofs.StatementExact.{statement_at_exact}
 use Rattle.px_real_blocks.specs.Parts.{nesting_limit, IsBracedBody}
-use Rattle.px_real_items.specs.Ends.{opened, passed, nesting, go_on, opening_at, body_start, end_by, end_of}
+use Rattle.px_real_items.specs.Ends.{opened, passed, taken, go_on, opening_at, body_start, end_by, end_of}
 use Rattle.px_real_items.specs.Trees.{all_but_last}
 use Rattle.px_real_symbols.specs.declared.symbol.Symbol.{Symbol}
 use Rattle.px_real_symbols.proofs.FrontLemmas.{blank}
@@ -40,16 +40,16 @@ turned_pair o c xs ys rest =
 
 -- ---- over brackets that match
 
-step : (t : Lexeme) (n : ℕ) (ts : List Lexeme) (k : Terminal) → t.terminal ≡ k → opening_at n (t ∷ ts) ≡ go_on (nesting k n) (length ts) (λ m. opening_at m ts)
+step : (t : Lexeme) (n : ℕ) (ts : List Lexeme) (k : Terminal) → t.terminal ≡ k → opening_at n (t ∷ ts) ≡ go_on (taken k n) (length ts) (λ m. opening_at m ts)
 unfolding opening_at
-step t n ts k h = ap (λ z. go_on (nesting z n) (length ts) (λ m. opening_at m ts)) h
+step t n ts k h = ap (λ z. go_on (taken z n) (length ts) (λ m. opening_at m ts)) h
 
-plain_passes : (k : Terminal) (n at : ℕ) (next : ℕ → Option ℕ) → closing k ≡ None → closes_something k ≡ false → go_on (nesting k (suc n)) at next ≡ next (suc n)
+plain_passes : (k : Terminal) (n at : ℕ) (next : ℕ → Option ℕ) → closing k ≡ None → closes_something k ≡ false → go_on (taken k (suc n)) at next ≡ next (suc n)
 plain_passes T.CloseBrace n at next o s = absurd cc
 plain_passes T.OpenBrace n at next o s = absurd cc
 plain_passes _ n at next o s = refl
 
-closes_one : (n at : ℕ) (next : ℕ → Option ℕ) → go_on (nesting T.CloseBrace n) at next ≡ next (suc n)
+closes_one : (n at : ℕ) (next : ℕ → Option ℕ) → go_on (taken T.CloseBrace n) at next ≡ next (suc n)
 closes_one n at next = let e : n + 1 ≡ suc n = omega arith in ap next e
 
 abbrev Passes : List Lexeme → Type 0
@@ -159,7 +159,7 @@ passed_within : (n m : ℕ) → N.Within m ≡ passed n → m ≤ n + 1
 passed_within zero m h = absurd cc
 passed_within (suc n) m h = let e : m ≡ suc n = cc in omega (arith, e)
 
-pub deepens : (k : Terminal) (n m : ℕ) → N.Within m ≡ nesting k n → m ≤ n + 1
+pub deepens : (k : Terminal) (n m : ℕ) → N.Within m ≡ taken k n → m ≤ n + 1
 deepens T.CloseBrace n m h = let e : m ≡ n + 1 = cc in omega (arith, e)
 deepens T.OpenBrace n m h = opened_within n m h
 deepens _ n m h = passed_within n m h
@@ -197,19 +197,19 @@ module _ (f : Symbol → Lexeme) (xs : List Symbol) where
   pub whole_left : (n : ℕ) → length xs ≤ n → opening_at 0 (reverse (map f (take n xs))) ≡ body_start (map f xs)
   whole_left n le = ap (λ z. opening_at 0 (reverse (map f z))) (take_all n xs le)
 
-  one_left : (i n : ℕ) (r : Nesting) → i < length xs → r ≡ nesting (f (get_or xs i blank)).terminal n → opening_at n (Left (i + 1)) ≡ go_on r (length (Left i)) (λ m. opening_at m (Left i))
+  one_left : (i n : ℕ) (r : Nesting) → i < length xs → r ≡ taken (f (get_or xs i blank)).terminal n → opening_at n (Left (i + 1)) ≡ go_on r (length (Left i)) (λ m. opening_at m (Left i))
   one_left i n r lt h =
       ap (opening_at n) (last_first f xs i blank lt) ∙ step (f (get_or xs i blank)) n (Left i) (f (get_or xs i blank)).terminal refl ∙ ap (λ z. go_on z (length (Left i)) (λ m. opening_at m (Left i))) (sym h)
 
-  pub goes_on_left : (i n m : ℕ) {o : Option ℕ} → i < length xs → N.Within m ≡ nesting (f (get_or xs i blank)).terminal n → opening_at n (reverse (map f (take (i + 1) xs))) ≡ o → opening_at m (reverse (map f (take i xs))) ≡ o
+  pub goes_on_left : (i n m : ℕ) {o : Option ℕ} → i < length xs → N.Within m ≡ taken (f (get_or xs i blank)).terminal n → opening_at n (reverse (map f (take (i + 1) xs))) ≡ o → opening_at m (reverse (map f (take i xs))) ≡ o
   goes_on_left i n m lt h so_far = sym (one_left i n (N.Within m) lt h) ∙ so_far
 
-  pub opens_there : (i n : ℕ) {o : Option ℕ} → i < length xs → N.Opens ≡ nesting (f (get_or xs i blank)).terminal n → opening_at n (reverse (map f (take (i + 1) xs))) ≡ o → Some i ≡ o
+  pub opens_there : (i n : ℕ) {o : Option ℕ} → i < length xs → N.Opens ≡ taken (f (get_or xs i blank)).terminal n → opening_at n (reverse (map f (take (i + 1) xs))) ≡ o → Some i ≡ o
   opens_there i n lt h so_far =
       let count : length (Left i) ≡ i = length-reverse (map f (take i xs)) ∙ length-map (take i xs) f ∙ length-take-le i xs (omega arith) in
       sym (ap Some count) ∙ sym (one_left i n N.Opens lt h) ∙ so_far
 
-  pub outside_there : (i n : ℕ) {o : Option ℕ} → i < length xs → N.Outside ≡ nesting (f (get_or xs i blank)).terminal n → opening_at n (reverse (map f (take (i + 1) xs))) ≡ o → None ≡ o
+  pub outside_there : (i n : ℕ) {o : Option ℕ} → i < length xs → N.Outside ≡ taken (f (get_or xs i blank)).terminal n → opening_at n (reverse (map f (take (i + 1) xs))) ≡ o → None ≡ o
   outside_there i n lt h so_far = sym (one_left i n N.Outside lt h) ∙ so_far
 
   pub none_left : (i n : ℕ) {o : Option ℕ} → i ≡ 0 → opening_at n (reverse (map f (take i xs))) ≡ o → None ≡ o

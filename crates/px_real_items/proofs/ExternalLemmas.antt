@@ -1,6 +1,6 @@
 -- What is read of the tokens of an item is what the grammar has.
-use Rattle.std.proofs.Common.{◌≡◌, ℕ, List, [], ◌∷◌, ◌++◌, length, take, drop, refl, ap, sym, subst, ◌∙◌, arith}
-use Rattle.std.proofs.lemmas.List.{take-append-drop, take-append-le, drop-append-le, take_all, drop_all}
+use Rattle.std.proofs.Common.{◌≡◌, ℕ, ◌-◌, List, [], ◌∷◌, ◌++◌, length, take, drop, map, Result, Ok, Err, refl, ap, sym, subst, ◌∙◌, arith}
+use Rattle.std.proofs.lemmas.List.{take-map, drop-map, length-map, take-append-drop, take-append-le, drop-append-le, take_all, drop_all}
 use Rattle.px_real_expressions.specs.declared.terminal.Terminal.TheVariants as T
 use Rattle.px_real_expressions.specs.Lexemes.{Lexeme}
 use Rattle.px_real_expressions.specs.Grammar.{Between, between, IsHeld, is_held}
@@ -20,7 +20,8 @@ use Rattle.px_real_declaring.specs.Whole.{NoneIs}
 use Rattle.px_real_names.specs.Behind.{Leaves, LeavesNone, of_head}
 use Rattle.px_real_items.specs.Ends.{end_of}
 use Rattle.px_real_items.specs.Externals.{ExternalTree, declares, defines, IsExternal, is_declaration, is_definition, IsNone}
-use Rattle.px_real_items.specs.Trees.{all_but_last, itself, NoneInScope, Neither, NoFunction}
+use Rattle.px_real_items.specs.Trees.{all_but_last, itself, NoneInScope, Neither, IsExternalRead, NoFunction, IsFunctionRead}
+use Rattle.px_real_items.specs.declared.tree.External.{External}
 use Rattle.px_real_items.specs.declared.ends.End.{End}
 use Rattle.px_real_items.specs.declared.ends.End.TheVariants as E
 use Rattle.px_real_items.proofs.EndLemmas.{body_balanced, body_there, semicolon_there, before_semicolon, ends_so}
@@ -114,3 +115,39 @@ no_function names ts n after (D.Deep at) h none = (not_defined names ts n h none
 pub neither : (names : Names) (ts : List Lexeme) → end_of ts ≡ E.Neither → IsNone names ts
 neither names ts h x after (is_declaration {ts1 = ts1} e m k s parts g) = absurd (let z : E.Semicolon ≡ E.Neither = sym (semicolon_there ts ts1 e k parts) ∙ h in cc)
 neither names ts h x after (is_definition {ts1 = ts1} ts2 {ss = ss} m b s parts g) = absurd (let z : E.Body (length ts1) ≡ E.Neither = sym (body_there ts ts1 ts2 ss b parts) ∙ h in cc)
+
+-- ---- as the code has the tokens
+
+pub seen_first : {A B : Type 0} (f : A → B) (xs ys : List A) (n : ℕ) → ys ≡ take n xs → map f ys ≡ take n (map f xs)
+seen_first f xs ys n h = ap (map f) h ∙ sym (take-map f n xs)
+
+pub seen_rest : {A B : Type 0} (f : A → B) (xs ys : List A) (n : ℕ) → ys ≡ drop n xs → map f ys ≡ drop n (map f xs)
+seen_rest f xs ys n h = ap (map f) h ∙ sym (drop-map f n xs)
+
+pub seen_but_last : {A B : Type 0} (f : A → B) (xs ys : List A) (n : ℕ) → n ≡ length xs - 1 → ys ≡ take n xs → map f ys ≡ all_but_last (map f xs)
+seen_but_last f xs ys n count h =
+    let e : n ≡ length (map f xs) - 1 = count ∙ ap (λ z. z - 1) (sym (length-map xs f)) in
+    seen_first f xs ys n h ∙ ap (λ z. take z (map f xs)) e
+
+pub bodiless_here : (names : Names) (ts us : List Lexeme) (n : ℕ) (e : DeclarationFault) → us ≡ drop n ts → NoneIs (IsBracedBody us) e → NoFunction names ts n names e
+bodiless_here names ts us n e h none = bodiless names ts n e (subst (λ z. NoneIs (IsBracedBody z) e) h none)
+
+pub headless_here : (names : Names) (ts us : List Lexeme) (n : ℕ) (after : Names) (e : DeclarationFault) → us ≡ take n ts → NoneInScope (IsHead (is_type names) nesting_limit us) of_head names after e → NoFunction names ts n after e
+headless_here names ts us n after e h none = headless names ts n after e (subst (λ z. NoneInScope (IsHead (is_type names) nesting_limit z) of_head names after e) h none)
+
+pub function_here : (names : Names) (ts us vs : List Lexeme) (n : ℕ) (f : List Lexeme → HeadTree) (g : List Lexeme → List StatementTree) (after : Names) → us ≡ take n ts → vs ≡ drop n ts →
+    IsHead (is_type names) nesting_limit us (f us) → IsBracedBody vs (g vs) → Leaves names (of_head (f us)) after → IsExternal names ts (defines (f (take n ts)) (g (drop n ts))) after
+function_here names ts us vs n f g after first rest m b s =
+    definition_is names ts n (f (take n ts)) (g (drop n ts)) after (subst (λ z. IsHead (is_type names) nesting_limit z (f z)) first m) (subst (λ z. IsBracedBody z (g z)) rest b) (subst (λ z. Leaves names (of_head (f z)) after) first s)
+
+pub declaration_here : (names : Names) (ts us : List Lexeme) (f : List Lexeme → DeclarationTree) (after : Names) → end_of ts ≡ E.Semicolon → us ≡ all_but_last ts → IsDeclaration (is_type names) nesting_limit us (f us) → Leaves names (f us) after →
+    IsExternal names ts (declares (f (all_but_last ts))) after
+declaration_here names ts us f after ends same m s =
+    declaration_is names ts (f (all_but_last ts)) after ends (subst (λ z. IsDeclaration (is_type names) nesting_limit z (f z)) same m) (subst (λ z. Leaves names (f z) after) same s)
+
+pub undeclared_here : (names : Names) (ts us : List Lexeme) (after : Names) (e : DeclarationFault) → end_of ts ≡ E.Semicolon → us ≡ all_but_last ts → NoneInScope (IsDeclaration (is_type names) nesting_limit us) itself names after e → Neither names ts after e
+undeclared_here names ts us after e ends same none = no_declaration names ts after e ends (subst (λ z. NoneInScope (IsDeclaration (is_type names) nesting_limit z) itself names after e) same none)
+
+pub function_read : (names : Names) (ts : List Lexeme) (n : ℕ) (after : Names) (r : Result External DeclarationFault) → end_of ts ≡ E.Body n → IsFunctionRead names ts n after r → IsExternalRead names ts after r
+function_read names ts n after (Ok x) ends h = h
+function_read names ts n after (Err e) ends h = no_function names ts n after e ends h

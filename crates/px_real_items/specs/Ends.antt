@@ -19,10 +19,10 @@ abbrev pub passed : ℕ → Nesting
 passed zero = N.Outside
 passed (suc n) = N.Within (suc n)
 
-abbrev pub nesting : Terminal → ℕ → Nesting
-nesting T.CloseBrace n = N.Within (n + 1)
-nesting T.OpenBrace n = opened n
-nesting _ n = passed n
+abbrev pub taken : Terminal → ℕ → Nesting
+taken T.CloseBrace n = N.Within (n + 1)
+taken T.OpenBrace n = opened n
+taken _ n = passed n
 
 abbrev pub go_on : Nesting → ℕ → (ℕ → Option ℕ) → Option ℕ
 go_on (N.Within n) at next = next n
@@ -32,7 +32,7 @@ go_on N.Outside at next = None
 -- in tokens that are read backwards: how many are left behind the brace that opens the first of them
 unfoldable pub opening_at : ℕ → List Lexeme → Option ℕ
 opening_at n [] = None
-opening_at n (t ∷ ts) = go_on (nesting t.terminal n) (length ts) (λ m. opening_at m ts)
+opening_at n (t ∷ ts) = go_on (taken t.terminal n) (length ts) (λ m. opening_at m ts)
 
 -- the number of the token with which the body begins that ends these
 abbrev pub body_start : List Lexeme → Option ℕ

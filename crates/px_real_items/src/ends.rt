@@ -3,7 +3,7 @@ ghost use Rattle.px_real_expressions.specs.Lexemes.{front};
 ghost use Rattle.px_real_expressions.specs.declared.terminal.Terminal.TheVariants.{Semicolon};
 ghost use Rattle.px_real_symbols.specs.Symbols.{seen, lexemes};
 ghost use Rattle.px_real_blocks.specs.Parts.{no_types};
-ghost use Rattle.px_real_items.specs.Ends.{opened, passed, nesting, body_start, end_of};
+ghost use Rattle.px_real_items.specs.Ends.{opened, passed, taken, body_start, end_of};
 
 use px_real_declaring::reading::NoTypes;
 use px_real_expressions::Terminal;
@@ -56,9 +56,9 @@ fn passed(closed: usize) -> Nesting
 }
 
 // What a token does.
-fn nesting(terminal: Terminal, closed: usize) -> Nesting
+fn taken(terminal: Terminal, closed: usize) -> Nesting
     requires { closed < usize.MAX }
-    ensures { result ≡ nesting terminal closed }
+    ensures { result ≡ taken terminal closed }
 {
     match terminal {
         Terminal::CloseBrace => Nesting::Within(closed + 1),
@@ -75,7 +75,7 @@ fn body_start(on: Tokens) -> Option<usize>
     let mut at = on.symbols.len();
     while at > 0 {
         at -= 1;
-        match nesting(on.symbols[at].terminal, closed) {
+        match taken(on.symbols[at].terminal, closed) {
             Nesting::Within(next) => closed = next,
             Nesting::Opens => return Some(at),
             Nesting::Outside => return None,
@@ -89,7 +89,10 @@ fn ends_in_semicolon(on: Tokens) -> bool
     ensures { result ≡ is_some (front Semicolon (reverse (seen on.entry))) }
 {
     let count = on.symbols.len();
-    count > 0 && on.symbols[count - 1].terminal == Terminal::Semicolon
+    if count == 0 {
+        return false;
+    }
+    on.symbols[count - 1].terminal == Terminal::Semicolon
 }
 
 // How all that is read ends.
