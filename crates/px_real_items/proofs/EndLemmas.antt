@@ -94,9 +94,15 @@ last_of_body : (ts1 ts2 : List Lexeme) (ss : List StatementTree) → IsBracedBod
 last_of_body ts1 ts2 ss b = by b.0 b.1
   where
     by : (o : Lexeme) → Between T.OpenBrace T.CloseBrace (IsBody nesting_limit) ts2 o ss → (o : Lexeme) × (c : Lexeme) × (a : List Lexeme) × (o.terminal ≡ T.OpenBrace) × (c.terminal ≡ T.CloseBrace) × Balanced a × (reverse (ts1 ++ ts2) ≡ c ∷ (reverse a ++ o ∷ reverse ts1))
-    by o (between c {ts1 = a} ko kc g parts) =
-        (o, c, a, ko, kc, body_balanced g,
-        ap (λ z. reverse (ts1 ++ z)) parts ∙ reverse-append ts1 (o ∷ a ++ c ∷ []) ∙ turned_pair o c a [] (reverse ts1))
+    by o (between c {ts1 = a} ko kc g parts) = (
+      o,
+      c,
+      a,
+      ko,
+      kc,
+      body_balanced g,
+      ap (λ z. reverse (ts1 ++ z)) parts ∙ reverse-append ts1 (o ∷ a ++ c ∷ []) ∙ turned_pair o c a [] (reverse ts1),
+    )
 
 no_semicolon : (c : Lexeme) (ts : List Lexeme) → c.terminal ≡ T.CloseBrace → front T.Semicolon (c ∷ ts) ≡ None
 no_semicolon c ts k = front_other T.CloseBrace T.Semicolon c ts k refl
@@ -110,9 +116,9 @@ body_there ts ts1 ts2 ss b parts =
     let a = w.2 in
     let turn : reverse ts ≡ c ∷ (reverse a ++ o ∷ reverse ts1) = ap reverse parts ∙ w.6 in
     let starts : opening_at 0 (c ∷ (reverse a ++ o ∷ reverse ts1)) ≡ Some (length (reverse ts1)) =
-        step c 0 (reverse a ++ o ∷ reverse ts1) T.CloseBrace w.4 ∙ closes_one 0 (length (reverse a ++ o ∷ reverse ts1)) (λ m. opening_at m (reverse a ++ o ∷ reverse ts1))
-        ∙ passes w.5 0 (o ∷ reverse ts1)
-        ∙ step o 1 (reverse ts1) T.OpenBrace w.3 in
+    step c 0 (reverse a ++ o ∷ reverse ts1) T.CloseBrace w.4 ∙ closes_one 0 (length (reverse a ++ o ∷ reverse ts1)) (λ m. opening_at m (reverse a ++ o ∷ reverse ts1))
+    ∙ passes w.5 0 (o ∷ reverse ts1)
+    ∙ step o 1 (reverse ts1) T.OpenBrace w.3 in
     ap (λ z. end_by (is_some (front T.Semicolon z)) (opening_at 0 z)) turn
     ∙ ap (λ z. end_by (is_some z) (opening_at 0 (c ∷ (reverse a ++ o ∷ reverse ts1)))) (no_semicolon c (reverse a ++ o ∷ reverse ts1) w.4)
     ∙ ap (end_by false) starts

@@ -51,11 +51,7 @@ fn head(
 }
 
 // The body of a function that these tokens are.
-fn body(
-    alloc: Global,
-    source: &[u8],
-    tokens: &[Token],
-) -> Result<Vec<Statement>, DeclarationFault>
+fn body(alloc: Global, source: &[u8], tokens: &[Token]) -> Result<Vec<Statement>, DeclarationFault>
     ensures { IsRead (IsBracedBody (lexemes no_types source.now tokens.now)) (λ ss. map (statement_tree (lexemes no_types source.now tokens.now)) ss.items) result }
 {
     match body_of(alloc, source, tokens) {
@@ -92,9 +88,7 @@ pub fn external(
     match end_of(alloc, source, tokens)? {
         End::Semicolon => {
             let before = some_first(tokens, tokens.len().saturating_sub(1));
-            Ok(External::Declaration(declaration(
-                alloc, source, before, names,
-            )?))
+            Ok(External::Declaration(declaration(alloc, source, before, names)?))
         }
         End::Body(start) => function(alloc, source, tokens, start, names),
         End::Neither => Err(DeclarationFault::NotADeclaration(0)),

@@ -12,10 +12,11 @@ returns-then-is_named c =
 
 pub loop-at-preserved : goal.loop-at-preserved
 loop-at-preserved c =
-    let e : c.loop-at.at - 1 + 1 ≡ c.loop-at.at = omega (arith, c.loop-at-test.true) in
-    (omega (arith, c.loop-at.invariant.0),
-    further_is c.args.entries.now (c.loop-at.at - 1) c.args.word.now c.index-entries-at.result (omega (arith, c.loop-at.invariant.0, c.loop-at-test.true)) c.index-entries-at.is
-    (ap (λ n. Scopes.is_type (names_view (take n c.args.entries.now)) c.args.word.now) e ∙ c.loop-at.invariant.1) c.if-is_named.ensures)
+    let e : c.loop-at.at - 1 + 1 ≡ c.loop-at.at = omega (arith, c.loop-at-test.true) in (
+      omega (arith, c.loop-at.invariant.0),
+      further_is c.args.entries.now (c.loop-at.at - 1) c.args.word.now c.index-entries-at.result (omega (arith, c.loop-at.invariant.0, c.loop-at-test.true)) c.index-entries-at.is
+          (ap (λ n. Scopes.is_type (names_view (take n c.args.entries.now)) c.args.word.now) e ∙ c.loop-at.invariant.1) c.if-is_named.ensures,
+    )
 
 pub returns : goal.returns
 returns c = none_at_all c.args.entries.now c.loop-at.at _ (omega (arith, c.loop-at-test.false)) c.loop-at.invariant.1
