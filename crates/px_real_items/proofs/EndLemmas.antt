@@ -85,10 +85,10 @@ passes (a_group {o = o} c {k = k} {ts1 = ts1} {ts2 = ts2} h m kc m2 parts) n res
 
 -- ---- a body
 
-pub body_balanced : {d : ℕ} {ts : List Lexeme} {ss : List StatementTree} → Items (IsStatement d) ts ss → Balanced ts
-body_balanced (no_item h g) = no_token h
-body_balanced {d = d} (an_item g f m parts e) = rw parts (balanced_both ((statement_at_exact d).balanced g) (body_balanced m))
-body_balanced (an_unread m none parts e) = m
+pub body_balanced : (d : ℕ) {ts : List Lexeme} {ss : List StatementTree} → Items (IsStatement d) ts ss → Balanced ts
+body_balanced d (no_item h g) = no_token h
+body_balanced d (an_item g f m parts e) = rw parts (balanced_both ((statement_at_exact d).balanced g) (body_balanced d m))
+body_balanced d (an_unread m none parts e) = m
 
 last_of_body : (ts1 ts2 : List Lexeme) (ss : List StatementTree) → IsBracedBody ts2 ss → (o : Lexeme) × (c : Lexeme) × (a : List Lexeme) × (o.terminal ≡ T.OpenBrace) × (c.terminal ≡ T.CloseBrace) × Balanced a × (reverse (ts1 ++ ts2) ≡ c ∷ (reverse a ++ o ∷ reverse ts1))
 last_of_body ts1 ts2 ss b = by b.0 b.1
@@ -100,7 +100,7 @@ last_of_body ts1 ts2 ss b = by b.0 b.1
       a,
       ko,
       kc,
-      body_balanced g,
+      body_balanced nesting_limit g,
       ap (λ z. reverse (ts1 ++ z)) parts ∙ reverse-append ts1 (o ∷ a ++ c ∷ []) ∙ turned_pair o c a [] (reverse ts1),
     )
 
@@ -192,7 +192,7 @@ passed_more (suc n) a = refl
 front_some : (t : Lexeme) (ts : List Lexeme) → is_some (front T.Semicolon (t ∷ ts)) ≡ same t.terminal T.Semicolon
 front_some t ts = by (same t.terminal T.Semicolon)
   where
-    by : (b : Bool) → is_some (if b then Some (t, ts) else None) ≡ b
+    by : (b : Bool) → is_some {T = Lexeme × List Lexeme} (if b then Some (t, ts) else None) ≡ b
     by true = refl
     by false = refl
 

@@ -58,7 +58,7 @@ pub no_body : (ts : List Lexeme) → ((o : Lexeme) (a : List Lexeme) → Between
 no_body ts h ss b = by b.0 b.1
   where
     by : (o : Lexeme) → Between T.OpenBrace T.CloseBrace (IsBody most_statements) ts o ss → ⊥
-    by o (between c {ts1 = a} ko kc g parts) = h o a (between c ko kc (is_held (body_balanced g) refl) parts)
+    by o (between c {ts1 = a} ko kc g parts) = h o a (between c ko kc (is_held (body_balanced most_statements g) refl) parts)
 
 -- ---- a function
 

@@ -1,4 +1,4 @@
-use Rattle.std.proofs.Common.{◌≡◌, ◌-◌, ◌+◌, get_or, take, map, reverse, ap, sym, ◌∙◌, arith}
+use Rattle.std.proofs.Common.{◌≡◌, ◌-◌, ◌+◌, ◌<◌, length, get_or, take, map, reverse, ap, sym, ◌∙◌, arith}
 use Rattle.px_real_symbols.specs.Symbols.{see, seen}
 use Rattle.px_real_symbols.proofs.FrontLemmas.{blank}
 use Rattle.px_real_items.specs.Ends.{opening_at}
@@ -11,7 +11,7 @@ loop-at-init c = record { within = omega arith; so_far = whole_left (see c.args.
 pub loop-at-preserved : goal.loop-at-preserved
 loop-at-preserved c =
     let e : c.loop-at.at - 1 + 1 ≡ c.loop-at.at = omega (arith, c.loop-at-test.true) in
-    let lt = omega (arith, c.loop-at.invariant.within, c.loop-at-test.true) in
+    let lt : c.loop-at.at - 1 < length c.args.on.symbols.now = omega (arith, c.loop-at.invariant.within, c.loop-at-test.true) in
     let is = sym c.in-Within.is ∙ c.taken.ensures in
     record {
       within = omega (arith, c.loop-at.invariant.within, c.loop-at-test.true, deepens _ c.loop-at.closed c.in-Within.next is);
