@@ -11,6 +11,8 @@
 mod answers;
 mod checks;
 mod exchanging;
+mod feeding;
+mod gathering;
 mod laws;
 mod link;
 mod reading;
