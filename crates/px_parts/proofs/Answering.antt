@@ -1,7 +1,7 @@
 -- What was found in the bytes that are held is the answer to the piece.
 use Rattle.std.proofs.Common.{◌≡◌, ℕ, zero, suc, ◌+◌, ◌-◌, ◌<◌, ◌≤◌, List, [], ◌∷◌, ◌++◌, length, Option, Some, None, Bool, true, false, Result, Ok, Err, refl, sym, ap, subst, ◌∙◌, append-nil, arith}
 use Rattle.std.specs.Prelude.{take, drop, min}
-use Rattle.std.proofs.lemmas.List.{nil_from_length, take_min, length-append}
+use Rattle.std.proofs.lemmas.List.{nil_from_length, take_min, length-append, length-take}
 use Rattle.std.proofs.Math.Nat.{min_comm}
 use Rattle.px_spelling.specs.declared.fault.WireFault.{WireFault}
 use Rattle.px_spelling.specs.declared.fault.WireFault.TheVariants.{NotAMessage, NoMemory}
@@ -14,9 +14,10 @@ use Rattle.px_parts.specs.declared.unread.Unread.{Unread}
 use Rattle.px_parts.specs.Stream.{Streams, stays, those, IsStuck}
 use Rattle.px_parts.specs.Skims.{IsEnded}
 use Rattle.px_parts.specs.Taking.{Waiting, waits, refuses, IsNext, IsFound, IsNoEnd, IsTakenOn}
-use Rattle.px_parts.specs.Kept.{held_in, waiting_of, kept_after, IsQuiet, IsAnswer}
+use Rattle.px_parts.specs.Kept.{held_in, waiting_of, kept_after, IsQuiet, IsAnswer, IsSame}
 use Rattle.px_parts.proofs.Streaming.{first_is_part, no_end_with}
 use Rattle.px_parts.proofs.Skimming.{ended_stuck}
+use Rattle.px_parts.proofs.Holding.{is_behind, same_held, same_within}
 
 taken_from : (count left : ℕ) (piece : List ℕ) → count ≡ min (length piece) left → take count piece ≡ take left piece
 taken_from count left piece is = ap (λ n. take n piece) (is ∙ min_comm (length piece) left) ∙ take_min left piece
@@ -113,3 +114,36 @@ short_answer p held piece bytes left count behind after r many place_is held_is 
 pub no_memory : (p : Place) (held piece : List ℕ) (left : ℕ) (e : WireFault) (after : Unread) → (e ≡ NotAMessage → ⊥) → waiting_of after ≡ waits p held left → IsTakenOn p held left piece (Err e) (kept_after (Err e) after)
 no_memory p held piece left NotAMessage after other is = absurd (other refl)
 no_memory p held piece left NoMemory after other is = is
+
+-- ---- from what was held before the piece, over what is held with it
+
+pub first_many : (count left : ℕ) (piece bytes : List ℕ) → count ≡ min (length piece) left → bytes ≡ take count piece → length bytes ≡ count
+first_many count left piece bytes many is = omega (arith, ap length is, length-take count piece, many)
+
+pub short_end : (old h l after : Unread) (piece bytes : List ℕ) (count behind : ℕ) (r : Result Taken WireFault) →
+    count ≡ min (length piece) old.left → bytes ≡ take count piece → h.place ≡ old.place → h.left ≡ old.left → held_in h ≡ held_in old ++ bytes → IsSame h l →
+    after.place ≡ l.place → held_in after ≡ held_in l → after.left ≡ l.left - count → behind ≡ length (held_in l) → IsStuck h.place (held_in h) →
+    IsAnswer None l.place behind after.left false count r → IsTakenOn old.place (held_in old) old.left piece r (kept_after r after)
+short_end old h l after piece bytes count behind r many first place left held same place_is held_is left_is are stuck is =
+    let place_all : l.place ≡ old.place = same.0 ∙ place in
+    let held_all : held_in h ≡ held_in old ++ take count piece = held ∙ ap (λ z. held_in old ++ z) first in
+    let here : held_in l ≡ held_in h = same_held h l same in
+    short_answer old.place (held_in old) piece (held_in h) old.left count behind after r many (place_is ∙ place_all) (held_is ∙ here) (left_is ∙ ap (λ n. n - count) (same.3 ∙ left))
+    (are ∙ ap length here) held_all (subst (λ p. IsStuck p (held_in h)) place stuck) (subst (λ p. IsAnswer None p behind after.left false count r) place_all is)
+
+pub found_end : (old h l g after : Unread) (piece bytes slice rest : List ℕ) (count : ℕ) (x : Option Part) (q : Place) (r : Result Taken WireFault) (ended : Bool) →
+    count ≡ min (length piece) old.left → bytes ≡ take count piece → h.start ≤ length h.held.items → h.place ≡ old.place → h.left ≡ old.left → held_in h ≡ held_in old ++ bytes → IsSame h l →
+    slice ≡ held_in l → Streams l.place slice (those x) q rest → (x ≡ None → IsStuck q rest) →
+    g.place ≡ q → g.left ≡ l.left - count → held_in g ≡ drop (length l.held.items - length rest) l.held.items →
+    IsSame g after → (ended ≡ true → IsEnded g.place (held_in g)) → IsAnswer x q (length rest) after.left ended count r → IsTakenOn old.place (held_in old) old.left piece r (kept_after r after)
+found_end old h l g after piece bytes slice rest count x q r ended many first within place left held same slice_is streams stuck place_is left_is held_is same_after whole is =
+    let place_all : l.place ≡ old.place = same.0 ∙ place in
+    let here : held_in l ≡ held_in old ++ take count piece = same_held h l same ∙ held ∙ ap (λ z. held_in old ++ z) first in
+    let in_held : Streams l.place (held_in l) (those x) q rest = subst (λ z. Streams l.place z (those x) q rest) slice_is streams in
+    let all : Streams old.place (held_in old ++ take count piece) (those x) q rest =
+    subst (λ z. Streams old.place z (those x) q rest) here (subst (λ p. Streams p (held_in l) (those x) q rest) place_all in_held) in
+    let behind = is_behind l.place q l.start l.held.items rest (those x) (same_within h l same within) in_held in
+    let rest_is : held_in g ≡ rest = held_is ∙ behind.1 in
+    answer_at old.place q (held_in old) piece rest old.left count (length rest) after x r ended many (same_after.0 ∙ place_is) (same_held g after same_after ∙ rest_is)
+    (same_after.3 ∙ left_is ∙ ap (λ n. n - count) (same.3 ∙ left)) refl all stuck
+    (λ none yes. subst (λ p. IsEnded p rest) place_is (subst (λ z. IsEnded g.place z) rest_is (whole yes))) is

@@ -171,7 +171,7 @@ conjunct_form (J.OtherPlace a b) fits =
 conjunct_form (J.Written a) fits = front_then F.Conjunct F.Word 1 (6 ∷ []) (var_bytes a) refl refl (one_fills F.Word (var_bytes a) (word_form a.0))
 conjunct_form (J.Unwritten a) fits = front_then F.Conjunct F.Word 1 (7 ∷ []) (var_bytes a) refl refl (one_fills F.Word (var_bytes a) (word_form a.0))
 conjunct_form (J.Quotient x a b) fits =
-    let all = var_bytes x ++ polynomial_bytes a ++ polynomial_bytes b in front_then F.Conjunct F.Quotient 1 (8 ∷ []) all refl refl (one_fills F.Quotient all (quotient_form x a b fits.1.0 fits.1.1))
+    let all = var_bytes x ++ polynomial_bytes a ++ polynomial_bytes b in front_then F.Conjunct F.Quotient 1 (8 ∷ []) all refl refl (one_fills F.Quotient all (quotient_form x a b fits.1 fits.2))
 
 conjuncts_form : (js : List Conj) → IsList IsConj most_conjuncts js → IsOne F.Conjuncts (list_bytes conj_bytes js)
 conjuncts_form js fits = list_is_one F.Conjuncts F.Conjunct conj_bytes IsConj most_conjuncts refl (λ front. refl) conjunct_form js fits

@@ -1,4 +1,4 @@
-ghost use Rattle.std.specs.Prelude.{◌≡◌, ◌↔◌, ◌-◌, ◌≤◌, ◌++◌, true, false, length, drop, IsErrOf, OnErr, OnOk};
+ghost use Rattle.std.specs.Prelude.{◌≡◌, ◌↔◌, ◌-◌, ◌≤◌, ◌++◌, true, false, length, take, drop, IsErrOf, OnErr, OnOk};
 ghost use Rattle.px_spelling.specs.declared.fault.WireFault.TheVariants as fault;
 ghost use Rattle.px_parts.specs.declared.place.Place.TheVariants.{Over};
 ghost use Rattle.px_parts.specs.declared.skim.Known.TheVariants.{Short, Whole};
@@ -27,7 +27,7 @@ pub(crate) struct Unread {
 
 /// Takes as much of a piece as is left, and looks for the next part. What comes next is read once when its first bytes are there,
 /// and again when all are.
-#[tactic(auto, using(crate::proofs::Answering::short_answer, crate::proofs::Answering::no_memory, crate::proofs::Skimming::skim_not_begun, crate::proofs::Holding::is_behind, crate::proofs::Holding::still_within, crate::proofs::Holding::how_many))]
+#[tactic(auto, using(crate::proofs::Answering::no_memory, crate::proofs::Skimming::skim_not_begun, crate::proofs::Holding::is_behind, crate::proofs::Holding::still_within, crate::proofs::Holding::how_many))]
 pub(crate) fn take_piece(
     alloc: Global,
     unread: &mut Unread,
@@ -40,26 +40,62 @@ pub(crate) fn take_piece(
     ensures taken { IsTakenOn unread.old.place (held_in unread.old) unread.old.left piece.now result (kept_after result unread.new) }
 {
     let count = piece.len().min(unread.left as usize);
-    hold(alloc, unread, &piece[..count])?;
+    hold(alloc, unread, first(piece, count))?;
     if let Known::Short = look(unread) {
         unread.left -= count as u32;
-        let behind = unread.held.len() - unread.start;
+        let behind = count_held(unread);
         return answer(None, unread.place, behind, unread.left, false, count as u64);
     }
-    match find(alloc, unread.place, &unread.held[unread.start..]) {
+    match find(alloc, unread.place, from_start(&unread.held, unread.start)) {
         Ok(found) => {
             let (part, place, rest) = found;
             let behind = rest.len();
             go_on(unread, place, behind, count as u32);
-            let ended = part.is_none() && is_ended(alloc, unread);
+            let ended = is_wrong(alloc, unread, &part);
             answer(part, place, behind, unread.left, ended, count as u64)
         }
         Err(fault) => {
-            unread.held.truncate(unread.held.len() - count);
-            unread.skim.begun = false;
+            take_back(unread, count);
             Err(fault)
         }
     }
+}
+
+// So many of the first bytes of a piece.
+fn first(piece: &[u8], count: usize) -> &[u8]
+    requires { count ≤ length piece.now }
+    ensures { result.now ≡ take count piece.now }
+{
+    &piece[..count]
+}
+
+// Bytes from a place on.
+fn from_start(held: &Vec<u8>, start: usize) -> &[u8]
+    requires { start ≤ length held.now.items }
+    ensures { result.now ≡ drop start held.now.items }
+{
+    &held[start..]
+}
+
+// How many bytes of what comes next are held.
+#[tactic(auto, using(crate::proofs::Holding::how_many))]
+fn count_held(unread: &Unread) -> usize
+    ensures { result ≡ length (held_in unread.now) }
+{
+    unread.held.len().saturating_sub(unread.start)
+}
+
+// Takes away so many bytes, those that were put last.
+fn take_back(unread: &mut Unread, count: usize)
+    ensures held { unread.new.held.items ≡ take (length unread.old.held.items - count) unread.old.held.items }
+    ensures start { unread.new.start ≡ unread.old.start }
+    ensures place { unread.new.place ≡ unread.old.place }
+    ensures left { unread.new.left ≡ unread.old.left }
+    ensures begun { unread.new.skim.begun ≡ false }
+{
+    let kept = unread.held.len().saturating_sub(count);
+    unread.held.truncate(kept);
+    unread.skim.begun = false;
 }
 
 // Puts bytes after those that are held. Those of parts that were given are let go.
@@ -110,7 +146,7 @@ fn look(unread: &mut Unread) -> Known
     ensures short { IsSkim unread.old.place (held_in unread.old) unread.old.skim → result ≡ Short → IsStuck unread.old.place (held_in unread.old) }
     ensures whole { IsSkim unread.old.place (held_in unread.old) unread.old.skim → result ≡ Whole → IsEnded unread.old.place (held_in unread.old) }
 {
-    unread.skim.pass(&unread.held[unread.start..])
+    unread.skim.pass(from_start(&unread.held, unread.start))
 }
 
 // Goes on to a place with so many bytes behind it, where so many more were taken.
@@ -128,6 +164,20 @@ fn go_on(unread: &mut Unread, place: Place, behind: usize, count: u32)
     unread.start = unread.held.len() - behind;
     unread.left -= count;
     unread.skim.begun = false;
+}
+
+// Whether nothing was found, though all bytes are there of what comes next.
+fn is_wrong(alloc: Global, unread: &mut Unread, part: &Option<Part>) -> bool
+    requires within { unread.old.start ≤ length unread.old.held.items }
+    requires skim { IsSkim unread.old.place (held_in unread.old) unread.old.skim }
+    ensures same { IsSame unread.old unread.new }
+    ensures skim { IsSkim unread.old.place (held_in unread.old) unread.new.skim }
+    ensures ended { result ≡ true → IsEnded unread.old.place (held_in unread.old) }
+{
+    match part {
+        Some(_) => false,
+        None => is_ended(alloc, unread),
+    }
 }
 
 // Whether all bytes are there of what comes next, which isn't read yet. From now on they are passed over.
