@@ -96,7 +96,7 @@ head_has (P.Large number ticket) fits = omega arith
 head_has P.End fits = absurd fits
 
 has_bytes : (p q : Place) (x : Part) (bytes : List ℕ) → Comes p (Some x) q bytes → 0 < length bytes
-has_bytes _ _ _ bytes (head x q _ fits goes is) = subst (λ l. 0 < length l) (sym is) (head_has x fits)
+has_bytes _ _ _ bytes (head x q _ fits where_to is) = subst (λ l. 0 < length l) (sym is) (head_has x fits)
 has_bytes _ _ _ bytes (entry n r e _ fits within is) = subst (λ l. 0 < length l) (sym is) (omega arith)
 has_bytes _ _ _ bytes (a_drop n g _ fits within is) = subst (λ l. 0 < length l) (sym is) (omega arith)
 has_bytes _ _ _ bytes (derivation n d _ fits is) = subst (λ l. 0 < length l) (sym is) (omega arith)
