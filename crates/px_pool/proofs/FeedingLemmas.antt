@@ -91,7 +91,7 @@ module _ (j : JobTree) (all : List ℕ) (over : ℕ) (rest : List ℕ) (w v : Wa
   refuses_all taken more many =
       let none : (m : MessageTree) → IsReplying m → ¬ Spells (all ++ more) m =
       λ m replying spells. parts_follow.refused f.before rest (over + length rest) f.parts w v f.given within taken more (many ∙ sym over_is) m replying
-          (subst (λ l. Spells (l ++ more) m) (sym f.joined) spells) in
+      (subst (λ l. Spells (l ++ more) m) (sym f.joined) spells) in
       no_ticket (all ++ more) none where
         no_ticket : (bytes : List ℕ) → ((m : MessageTree) → IsReplying m → ¬ Spells bytes m) → (ticket : ℕ) → ¬ NamesTicket bytes ticket
         no_ticket bytes none ticket (inl (kinds, t, ds, spells)) = none (reply ticket kinds t ds) tt spells

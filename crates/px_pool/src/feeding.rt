@@ -49,7 +49,7 @@ pub(crate) fn feed(
         match reader.take(rest) {
             Ok(answer) => {
                 let Taken { part, .. } = answer;
-                match turn(alloc, job, standing, part) {
+                match turn_by(alloc, job, standing, part) {
                     Turn::Held(last) => return Fed::Open(last),
                     Turn::Ended(last) => return Fed::Done(finish(last)),
                     Turn::More(next) => {
@@ -91,7 +91,7 @@ pub(crate) fn outcome(fed: Fed) -> Result<Answer, Lost>
 }
 
 // What a part is, and what is known then.
-fn turn(alloc: Global, job: &Job, standing: Standing, part: Part) -> Turn
+fn turn_by(alloc: Global, job: &Job, standing: Standing, part: Part) -> Turn
     ensures turn { IsTurn part standing result }
     ensures standing { (parts : List APart) → IsStanding (job_tree job.now) parts standing → StandsAfter (job_tree job.now) parts part result }
 {

@@ -51,6 +51,7 @@ pub(crate) enum Standing {
 }
 
 /// What is known where one part more came.
+#[tactic(auto, using(crate::proofs::GatheringLemmas::lost_still, crate::proofs::GatheringLemmas::open_still))]
 pub(crate) fn put(alloc: Global, job: &Job, standing: Standing, part: Part) -> Standing
     ensures { (parts : List APart) → IsStanding (job_tree job.now) parts standing → IsStanding (job_tree job.now) (parts ++ part ∷ []) result }
 {
@@ -95,6 +96,7 @@ fn other_ticket(job: &Job, given: u64) -> Standing {
     })
 }
 
+#[tactic(auto, using(crate::proofs::GatheringLemmas::nothing_gathered))]
 fn nothing_yet(alloc: Global) -> Gathering
     ensures { (j : JobTree) → IsGathered j [] [] [] result }
 {
@@ -187,10 +189,11 @@ fn check_next(
 ) -> Result<Option<Refusal>, NoMemory>
     ensures { IfOk result (λ r. (done : List AnEntry) (ds : List ADerivation) → AreChecked (job_tree job.now) done ds checked.old → AreJudged (job_tree job.now) (done ++ entry ∷ []) (ds ++ derivation.now ∷ []) checked.new r) }
 {
-    let Ok(place) = u32::try_from(checked.len()) else {
+    let count = checked.len();
+    if count > u32::MAX as usize {
         return Err(NoMemory);
-    };
-    match check_one(alloc, job, entry, derivation, place) {
+    }
+    match check_one(alloc, job, entry, derivation, count as u32) {
         Ok(one) => {
             checked.push(one)?;
             Ok(None)
