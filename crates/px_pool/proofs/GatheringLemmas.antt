@@ -217,8 +217,8 @@ module _ (j : JobTree) where
 
   pub too_few : (parts : List Part) (bytes : List ℕ) (m : MessageTree) (g : Gathering) → g.pending.items ≢ [] → IsOpen j parts g → Spells bytes m → IsReplying m → parts_of m ≡ parts →
       IsFaultIn j bytes (Refused 0 0)
-  too_few parts bytes m g some open spells replying is =
-      let c = closes parts bytes m g open spells replying is in
+  too_few parts bytes m g some opened spells replying is =
+      let c = closes parts bytes m g opened spells replying is in
       let many : length c.ds ≡ length c.done = judged_many c.done c.ds g.checked g.refused c.judged in
       let all : length c.done + length g.pending.items ≡ length c.table.entries = sym (length-append c.done g.pending.items) ∙ ap length c.entries in
       let left = some_left g.pending.items some in
@@ -229,8 +229,8 @@ module _ (j : JobTree) where
 
   pub first_refused : (parts : List Part) (bytes : List ℕ) (m : MessageTree) (g : Gathering) (r : Refusal) → g.pending.items ≡ [] → g.refused ≡ Some r → IsOpen j parts g → Spells bytes m → IsReplying m →
       parts_of m ≡ parts → IsFaultIn j bytes (Refused r.entry r.step)
-  first_refused parts bytes m g r none refused open spells replying is =
-      let c = closes parts bytes m g open spells replying is in
+  first_refused parts bytes m g r none refused opened spells replying is =
+      let c = closes parts bytes m g opened spells replying is in
       let judged = subst (λ o. AreJudged j c.done c.ds g.checked o) refused c.judged in
       let same = all_done bytes g c none in
       (c.table, c.ds, c.spells, inr (judged.0 ∙ ap length same, subst (λ l. FirstFails j l c.ds r.entry r.step) same judged.1))
@@ -240,8 +240,8 @@ module _ (j : JobTree) where
 
   pub gives : (parts : List Part) (bytes : List ℕ) (m : MessageTree) (g : Gathering) → g.pending.items ≡ [] → g.refused ≡ None → IsOpen j parts g → Spells bytes m → IsReplying m →
       parts_of m ≡ parts → AreOf j g.checked × GivesTable j bytes (table_from g.checked g.drops)
-  gives parts bytes m g none unrefused open spells replying is =
-      let c = closes parts bytes m g open spells replying is in
+  gives parts bytes m g none unrefused opened spells replying is =
+      let c = closes parts bytes m g opened spells replying is in
       let checked : AreChecked j c.done c.ds g.checked = subst (λ o. AreJudged j c.done c.ds g.checked o) unrefused c.judged in
       let t : Table = table_from g.checked g.drops in
       let entries : map entry_of g.checked ≡ c.table.entries = checked.entries ∙ all_done bytes g c none in
