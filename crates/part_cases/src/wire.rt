@@ -1,8 +1,10 @@
-//! What bytes spell, or what a worker without domains does with them. A case has the bytes, two hexadecimal digits each.
+//! What bytes spell, or what a worker without domains does with them. A case has the bytes, two hexadecimal digits each, but for
+//! `long-entry`, which has how many pieces there are, and how many bytes each.
 
 mod bytes;
 mod changes;
 mod messages;
+mod parts;
 mod serving;
 
 use anyhow::{Result, bail};
@@ -13,6 +15,9 @@ use std::sync::Wait;
 /// What is printed for a case: its word, and what it says. The words are `message`, `beginnings` and `changes` of
 /// `messages`, and those of `serving`.
 pub fn answer<R: Wait>(rt: &R, alloc: Global, word: &str, digits: &str) -> Result<String> {
+    if word == "long-entry" {
+        return long_entry(alloc, digits);
+    }
     let bytes = bytes::bytes_of(alloc, digits)?;
     let said = match word {
         "message" => messages::message(alloc, &bytes)?,
@@ -26,4 +31,12 @@ pub fn answer<R: Wait>(rt: &R, alloc: Global, word: &str, digits: &str) -> Resul
         _ => bail!("no such word"),
     };
     Ok(format!(in alloc; "{word}: {said}")?)
+}
+
+fn long_entry(alloc: Global, text: &str) -> Result<String> {
+    let Some((pieces, size)) = text.split_once(' ') else {
+        bail!("two numbers are wanted");
+    };
+    let said = parts::long_entry(alloc, pieces.parse()?, size.parse()?)?;
+    Ok(format!(in alloc; "long-entry: {said}")?)
 }

@@ -23,7 +23,7 @@ use px_terms::Items;
 use std::alloc::Global;
 
 /// More than any number of four bytes.
-pub(crate) const ANY_TYPES: usize = 4_294_967_296;
+pub const ANY_TYPES: usize = 4_294_967_296;
 
 /// The message that these bytes spell. `NotAMessage` comes exactly where they spell none; else `NoMemory`. Room is taken
 /// for what was read, so that a count which the bytes don't hold takes none.

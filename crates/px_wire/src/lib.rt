@@ -18,8 +18,10 @@ mod sink_buffer;
 mod table_ranges;
 mod term_ranges;
 
-pub use decoding::decode;
+pub use decoding::{ANY_TYPES, decode};
 pub use encoding::{encode, encode_request, length, write};
 pub use laws::{encoded_is_decoded, one_spelling};
-pub use message::Message;
+pub use message::{Message, VERSION};
 pub use message_ranges::{is_in_range, is_request_in_range};
+pub use rising_kinds::do_kinds_rise;
+pub use table_ranges::{is_drop_within, is_entry_within};

@@ -3,7 +3,7 @@ use px_entry::{Derivation, Table};
 use px_terms::Items;
 
 /// The version of the bytes.
-pub(crate) const VERSION: u8 = 1;
+pub const VERSION: u8 = 1;
 
 /// What the parent and a worker say to each other.
 #[derive(Drop)]

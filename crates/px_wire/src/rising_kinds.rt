@@ -14,7 +14,7 @@ fn is_after(before: Option<u32>, x: u32) -> bool
 }
 
 /// Whether each kind is greater than the one before it.
-pub(crate) fn do_kinds_rise(kinds: &[u8]) -> bool
+pub fn do_kinds_rise(kinds: &[u8]) -> bool
     ensures { result ≡ rises kinds.now }
 {
     let mut before = None;

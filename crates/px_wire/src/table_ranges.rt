@@ -26,7 +26,8 @@ fn are_entries_within(types: usize, entries: &[Entry]) -> bool
     entries.iter().all(|e| is_entry_within(types, e))
 }
 
-fn is_entry_within(types: usize, entry: &Entry) -> bool
+/// Whether an entry mentions its own variables and these block types alone.
+pub fn is_entry_within(types: usize, entry: &Entry) -> bool
     ensures { result ≡ entry_within types entry.now }
 {
     let variables = entry.vars.len();
@@ -78,7 +79,14 @@ fn are_contents_within(variables: usize, contents: &[Content]) -> bool
 fn are_drops_within(drops: &[Gap]) -> bool
     ensures { result ≡ list_all gap_within drops.now }
 {
-    drops.iter().all(|g| is_cause_within(&g.cause))
+    drops.iter().all(|g| is_drop_within(g))
+}
+
+/// Whether a drop mentions variables alone that a path may have.
+pub fn is_drop_within(gap: &Gap) -> bool
+    ensures { result ≡ gap_within gap.now }
+{
+    is_cause_within(&gap.cause)
 }
 
 fn is_cause_within(cause: &Cause) -> bool

@@ -1,4 +1,5 @@
 use super::changes::{CHANGES, changed};
+use super::parts::{come_together, come_together_at_each_cut, come_together_in_pieces};
 use anyhow::{Result, bail};
 use px_spelling::WireFault;
 use px_wire::{Message, decode, encode, length};
@@ -8,7 +9,8 @@ use std::fmt::Write;
 /// How many bytes of a message share a line.
 const A_LINE: usize = 16;
 
-/// What bytes are read as, and whether they are written so again, and counted.
+/// What bytes are read as; and whether they are written so again, and counted, and their parts, if they are a worker's message, are
+/// those of the message.
 #[derive(Clone, Copy)]
 enum Spelled {
     Request,
@@ -21,9 +23,20 @@ enum Spelled {
 fn read_as(alloc: Global, bytes: &[u8]) -> Result<Spelled> {
     let message = match decode(alloc, bytes) {
         Ok(message) => message,
-        Err(WireFault::NotAMessage) => return Ok(Spelled::Nothing),
+        Err(WireFault::NotAMessage) => {
+            let none = come_together(alloc, bytes, false)?;
+            return Ok(if none {
+                Spelled::Nothing
+            } else {
+                Spelled::Otherwise
+            });
+        }
         Err(WireFault::NoMemory) => bail!("no memory"),
     };
+    let is_request = matches!(message, Message::Request { .. });
+    if !come_together(alloc, bytes, !is_request)? {
+        return Ok(Spelled::Otherwise);
+    }
     let again = encode(alloc, &message)?;
     if again.as_slice() != bytes {
         return Ok(Spelled::Otherwise);
@@ -38,9 +51,16 @@ fn read_as(alloc: Global, bytes: &[u8]) -> Result<Spelled> {
     })
 }
 
-/// What a message is.
+/// What a message is. Wherever it is cut in two, and in small pieces, its parts are the same.
 pub fn message(alloc: Global, bytes: &[u8]) -> Result<String> {
-    let said = match read_as(alloc, bytes)? {
+    let spelled = read_as(alloc, bytes)?;
+    let is_one = matches!(spelled, Spelled::Reply | Spelled::Large);
+    if !come_together_at_each_cut(alloc, bytes, is_one)?
+        || !come_together_in_pieces(alloc, bytes, is_one)?
+    {
+        bail!("a cut changes the parts");
+    }
+    let said = match spelled {
         Spelled::Request => "request",
         Spelled::Reply => "reply",
         Spelled::Large => "large",

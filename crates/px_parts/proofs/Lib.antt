@@ -1,0 +1,13 @@
+pub mod ComesReads
+pub mod Stuck
+pub mod Passing
+pub mod Filling
+pub mod FormsOf
+pub mod Skimming
+pub mod Arrivals
+pub mod Streaming
+pub mod Holding
+pub mod MessageParts
+pub mod PartsMessage
+pub mod Answering
+pub mod Pieces

@@ -1,0 +1,136 @@
+-- Bytes are passed over in one way.
+use Rattle.std.proofs.Common.{◌≡◌, ◌≢◌, ℕ, zero, suc, ◌+◌, ◌-◌, ◌<◌, ◌≤◌, List, [], ◌∷◌, ◌++◌, length, Option, Some, None, Bool, true, false, refl, sym, ap, subst, ◌∙◌, append_assoc, arith}
+use Rattle.std.specs.Prelude.{take, drop, nat_lt, if◌then◌else◌}
+use Rattle.std.proofs.lemmas.Bool.{lt-ltb, le-ltb, ltb-false}
+use Rattle.std.proofs.lemmas.Option.{none-some, same_Some}
+use Rattle.std.proofs.lemmas.List.{length-append, take-append-drop, take-append-le, drop-append-le}
+use Rattle.std.proofs.Math.Seq.{drop-append_seam}
+use Rattle.px_parts.specs.declared.form.Form.{Form}
+use Rattle.px_parts.specs.declared.form.Due.{Due}
+use Rattle.px_parts.specs.Forms.{size, due, follow, next_of, next, Passes, stands, moves}
+
+-- ---- one step
+
+-- this is due, and those bytes are left
+abbrev pub leaves : List Due → List ℕ → Option (List Due × List ℕ)
+leaves dues bytes = Some (dues, bytes)
+
+pub no_more : (d : Due) (dues : List Due) (bytes : List ℕ) → d.count ≡ 0 → next (d ∷ dues) bytes ≡ leaves dues bytes
+no_more d dues bytes none = ap (λ n. next_of d.form n dues bytes) none
+
+-- what is told where there are enough bytes
+abbrev told : Form → ℕ → List Due → List ℕ → Option (List Due × List ℕ)
+told f n dues bytes = leaves (follow f (take (size f) bytes) ∷ due f n ∷ dues) (drop (size f) bytes)
+
+one_told : (f : Form) (n : ℕ) (dues : List Due) (bytes : List ℕ) → size f ≤ length bytes → next_of f (suc n) dues bytes ≡ told f n dues bytes
+one_told f n dues bytes some = ap (λ b. if b then None else told f n dues bytes) (le-ltb (length bytes) (size f) some)
+
+one_short : (f : Form) (n : ℕ) (dues : List Due) (bytes : List ℕ) → length bytes < size f → next_of f (suc n) dues bytes ≡ None
+one_short f n dues bytes short = ap (λ b. if b then None else told f n dues bytes) (lt-ltb (length bytes) (size f) short)
+
+pub told_at : (f : Form) (n : ℕ) (dues : List Due) (bytes front rest : List ℕ) → size f ≤ length bytes → front ≡ take (size f) bytes → rest ≡ drop (size f) bytes →
+    next_of f (suc n) dues bytes ≡ leaves (follow f front ∷ due f n ∷ dues) rest
+told_at f n dues bytes front rest there is_front is_rest =
+    one_told f n dues bytes there ∙ ap (λ l. leaves (follow f l ∷ due f n ∷ dues) (drop (size f) bytes)) (sym is_front) ∙ ap (λ l. leaves (follow f front ∷ due f n ∷ dues) l) (sym is_rest)
+
+pub next_told : (f : Form) (n : ℕ) (dues : List Due) (bytes front rest : List ℕ) → n ≢ 0 → size f ≤ length bytes → front ≡ take (size f) bytes → rest ≡ drop (size f) bytes →
+    next_of f n dues bytes ≡ leaves (follow f front ∷ due f (n - 1) ∷ dues) rest
+next_told f zero dues bytes front rest some there is_front is_rest = absurd (some refl)
+next_told f (suc n) dues bytes front rest some there is_front is_rest =
+    let less : suc n - 1 ≡ n = omega arith in
+    told_at f n dues bytes front rest there is_front is_rest ∙ ap (λ k. leaves (follow f front ∷ due f k ∷ dues) rest) (sym less)
+
+pub next_short : (f : Form) (n : ℕ) (dues : List Due) (bytes : List ℕ) → n ≢ 0 → length bytes < size f → next_of f n dues bytes ≡ None
+next_short f zero dues bytes some short = absurd (some refl)
+next_short f (suc n) dues bytes some short = one_short f n dues bytes short
+
+-- ---- what one step leaves
+
+both_told : (a c : List Due) (b d : List ℕ) → leaves a b ≡ leaves c d → (a ≡ c) × (b ≡ d)
+both_told a c b d same =
+    let first : List Due × List ℕ = (a, b) in
+    let second : List Due × List ℕ = (c, d) in
+    let one : first ≡ second = same_Some first second same in
+    (ap (λ z. z.0) one, ap (λ z. z.1) one)
+
+there : (f : Form) (n : ℕ) (dues others : List Due) (bytes rest : List ℕ) → next_of f (suc n) dues bytes ≡ leaves others rest → size f ≤ length bytes
+there f n dues others bytes rest is = from_test (nat_lt (length bytes) (size f)) refl where
+  from_test : (b : Bool) → nat_lt (length bytes) (size f) ≡ b → size f ≤ length bytes
+  from_test true short = absurd (none-some _ (sym (ap (λ b. if b then None else told f n dues bytes) short) ∙ is))
+  from_test false long = ltb-false (length bytes) (size f) long
+
+one_more : (f : Form) (n : ℕ) (dues others : List Due) (bytes rest more : List ℕ) → next_of f n dues bytes ≡ leaves others rest → next_of f n dues (bytes ++ more) ≡ leaves others (rest ++ more)
+one_more f zero dues others bytes rest more is =
+    let b = both_told dues others bytes rest is in ap (λ l. leaves l (bytes ++ more)) b.0 ∙ ap (λ l. leaves others (l ++ more)) b.1
+one_more f (suc n) dues others bytes rest more is =
+    let some = there f n dues others bytes rest is in
+    let b = both_told (follow f (take (size f) bytes) ∷ due f n ∷ dues) others (drop (size f) bytes) rest (sym (one_told f n dues bytes some) ∙ is) in
+    let long : size f ≤ length (bytes ++ more) = omega (arith, length-append bytes more) in
+    one_told f n dues (bytes ++ more) long
+    ∙ ap (λ l. leaves (follow f l ∷ due f n ∷ dues) (drop (size f) (bytes ++ more))) (take-append-le (size f) bytes more some)
+    ∙ ap (λ l. leaves (follow f (take (size f) bytes) ∷ due f n ∷ dues) l) (drop-append-le (size f) bytes more some)
+    ∙ ap (λ l. leaves l (drop (size f) bytes ++ more)) b.0 ∙ ap (λ l. leaves others (l ++ more)) b.1
+
+next_more : (dues others : List Due) (bytes rest more : List ℕ) → next dues bytes ≡ leaves others rest → next dues (bytes ++ more) ≡ leaves others (rest ++ more)
+next_more [] others bytes rest more is = absurd (none-some _ is)
+next_more (d ∷ dues) others bytes rest more is = one_more d.form d.count dues others bytes rest more is
+
+one_front : (f : Form) (n : ℕ) (dues others : List Due) (bytes rest : List ℕ) → next_of f n dues bytes ≡ leaves others rest → (front : List ℕ) × (bytes ≡ front ++ rest)
+one_front f zero dues others bytes rest is = ([], (both_told dues others bytes rest is).1)
+one_front f (suc n) dues others bytes rest is =
+    let some = there f n dues others bytes rest is in
+    let b = both_told (follow f (take (size f) bytes) ∷ due f n ∷ dues) others (drop (size f) bytes) rest (sym (one_told f n dues bytes some) ∙ is) in
+    (take (size f) bytes, sym (take-append-drop (size f) bytes) ∙ ap (λ l. take (size f) bytes ++ l) b.1)
+
+next_front : (dues others : List Due) (bytes rest : List ℕ) → next dues bytes ≡ leaves others rest → (front : List ℕ) × (bytes ≡ front ++ rest)
+next_front [] others bytes rest is = absurd (none-some _ is)
+next_front (d ∷ dues) others bytes rest is = one_front d.form d.count dues others bytes rest is
+
+-- ---- one after another
+
+pub passes_more : (a c : List Due) (b d more : List ℕ) → Passes a b c d → Passes a (b ++ more) c (d ++ more)
+passes_more a _ b _ more stands = stands
+passes_more a c b d more (moves {more = m} {after = after} is next) = moves (next_more a m b after more is) (passes_more m c after d more next)
+
+pub passes_front : (a c : List Due) (b d : List ℕ) → Passes a b c d → (front : List ℕ) × (b ≡ front ++ d)
+passes_front a _ b _ stands = ([], refl)
+passes_front a c b d (moves {more = m} {after = after} is next) =
+    let first = next_front a m b after is in
+    let e = passes_front m c after d next in
+    (first.0 ++ e.0, first.1 ∙ ap (λ l. first.0 ++ l) e.1 ∙ sym (append_assoc first.0 e.0 d))
+
+pub passes_then : (a c e : List Due) (b d r : List ℕ) → Passes a b c d → Passes c d e r → Passes a b e r
+passes_then a _ e b _ r stands second = second
+passes_then a c e b d r (moves {more = m} {after = after} is next) second = moves is (passes_then m c e after d r next second)
+
+pub passes_on : (a c e : List Due) (b d r : List ℕ) → Passes a b c d → next c d ≡ leaves e r → Passes a b e r
+passes_on a c e b d r first is = passes_then a c e b d r first (moves is stands)
+
+pub passes_same : (a c e : List Due) (b d : List ℕ) → Passes a b c d → e ≡ c → Passes a b e d
+passes_same a c e b d first is = subst (λ l. Passes a b l d) (sym is) first
+
+pub passes_none : (a : List Due) (b : List ℕ) → Passes a b a b
+passes_none a b = stands
+
+meets : (a c u : List Due) (b d v : List ℕ) → Passes a b c d → next c d ≡ None → Passes a b u v → Passes u v c d
+meets a c _ b d _ first last stands = first
+meets a _ u b _ v stands last (moves {more = m} {after = after} is second) = absurd (none-some _ (sym last ∙ is))
+meets a c u b d v (moves {more = m} {after = after} is first) last (moves {more = m'} {after = after'} is' second) =
+    let o = both_told m m' after after' (sym is ∙ is') in
+    meets m c u after d v first last (subst (λ l. Passes l after u v) (sym o.0) (subst (λ l. Passes m' l u v) (sym o.1) second))
+
+nothing_due : (u : List Due) (d v : List ℕ) → Passes [] d u v → (u ≡ []) × (d ≡ v)
+nothing_due _ d _ stands = (refl, refl)
+nothing_due u d v (moves {more = m} {after = after} is next) = absurd (none-some _ is)
+
+-- where all is passed over, nothing else is come to
+pub one_end : (a u : List Due) (b d v : List ℕ) → Passes a b [] d → Passes a b u v → next u v ≡ None → (u ≡ []) × (d ≡ v)
+one_end a u b d v first second last = nothing_due u d v (meets a u [] b v d second last first)
+
+-- what is left are the last bytes
+pub is_rest : (a c : List Due) (b d : List ℕ) → Passes a b c d → (length d ≤ length b) × (d ≡ drop (length b - length d) b)
+is_rest a c b d passes =
+    let f = passes_front a c b d passes in
+    let all : length b ≡ length f.0 + length d = ap length f.1 ∙ length-append f.0 d in
+    let many : length b - length d ≡ length f.0 = omega (arith, all) in
+    (omega (arith, all), sym (drop-append_seam f.0 d) ∙ ap (λ l. drop (length f.0) l) (sym f.1) ∙ ap (λ n. drop n b) (sym many))

@@ -1,0 +1,7 @@
+ghost use Rattle.px_parts.specs.Laws.{PartsAreThose};
+
+/// The parts that a reader gives are those of the message that the bytes spell, however these are cut. It says that it is
+/// the end exactly where all bytes are a message whose parts it gave, and refuses exactly those that are none.
+pub fn parts_are_those()
+    ensures { PartsAreThose }
+{}

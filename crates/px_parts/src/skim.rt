@@ -1,0 +1,217 @@
+ghost use Rattle.std.specs.Prelude.{◌≡◌, ◌≢◌, ℕ, List, ◌+◌, ◌*◌, ◌-◌, ◌<◌, ◌≤◌, ◌++◌, ◌∷◌, [], None, Some, length, drop, IfOk, IfSome, IfNone, OnOk};
+ghost use Rattle.px_parts.specs.declared.skim.Known.TheVariants.{Short, Whole};
+ghost use Rattle.px_parts.specs.Forms.{due, next, Passes, entry_dues, dues_at};
+ghost use Rattle.px_parts.specs.Skims.{IsSkim, IsEnded};
+ghost use Rattle.px_parts.specs.Stream.{IsStuck};
+
+use crate::Place;
+use crate::form::{Due, Form, due_after, size_of};
+use px_terms::NoMemory;
+use std::alloc::Global;
+use std::collections::VecDeque;
+
+/// What is known of the bytes of what comes next.
+#[derive(Clone, Copy)]
+pub(crate) enum Known {
+    /// Some are missing.
+    Short,
+    /// None is missing.
+    Whole,
+    /// Nothing is known.
+    Nothing,
+}
+
+/// How far the bytes of what comes next were passed over, which is begun where they weren't all there. It is only a help: where
+/// there is no memory for it, nothing is known.
+#[derive(Drop)]
+pub(crate) struct Skim {
+    pub(crate) dues: VecDeque<Due>,
+    pub(crate) passed: usize,
+    pub(crate) begun: bool,
+}
+
+impl Skim {
+    /// Not begun. Takes no memory.
+    #[tactic(auto, using(crate::proofs::Skimming::skim_not_begun))]
+    pub(crate) fn new(alloc: Global) -> Skim
+        ensures { (p : Place) (bytes : List ℕ) → IsSkim p bytes result }
+    {
+        Skim {
+            dues: VecDeque::new(alloc),
+            passed: 0,
+            begun: false,
+        }
+    }
+
+    /// At a place, where no byte was passed.
+    #[tactic(auto, using(crate::proofs::Skimming::skim_begins, crate::proofs::Skimming::skim_not_begun))]
+    pub(crate) fn begin(alloc: Global, place: Place) -> Skim
+        ensures { (bytes : List ℕ) → IsSkim place bytes result }
+    {
+        let mut dues = VecDeque::new(alloc);
+        match put_dues(&mut dues, place) {
+            Ok(()) => Skim {
+                dues,
+                passed: 0,
+                begun: true,
+            },
+            Err(NoMemory) => Skim {
+                dues,
+                passed: 0,
+                begun: false,
+            },
+        }
+    }
+
+    /// Goes on in all bytes that are there of what comes next.
+    #[tactic(auto, using(crate::proofs::Skimming::skim_on, crate::proofs::Skimming::skim_short, crate::proofs::Skimming::skim_whole, crate::proofs::Skimming::skim_not_begun))]
+    pub(crate) fn pass(&mut self, bytes: &[u8]) -> Known
+        ensures kept { (p : Place) → IsSkim p bytes.now self.old → IsSkim p bytes.now self.new }
+        ensures short { (p : Place) → IsSkim p bytes.now self.old → result ≡ Short → IsStuck p bytes.now }
+        ensures whole { (p : Place) → IsSkim p bytes.now self.old → result ≡ Whole → IsEnded p bytes.now }
+    {
+        if !self.begun || self.passed > bytes.len() {
+            return Known::Nothing;
+        }
+        match pass_all(&mut self.dues, &bytes[self.passed..]) {
+            Ok(rest) => {
+                self.passed = bytes.len() - rest.len();
+                known_by(&self.dues)
+            }
+            Err(NoMemory) => {
+                self.begun = false;
+                Known::Nothing
+            }
+        }
+    }
+}
+
+fn known_by(dues: &VecDeque<Due>) -> Known
+    ensures short { result ≡ Short → dues.now.items ≢ [] }
+    ensures whole { result ≡ Whole → dues.now.items ≡ [] }
+{
+    if dues.is_empty() {
+        Known::Whole
+    } else {
+        Known::Short
+    }
+}
+
+// Passes over as much as there is.
+#[tactic(auto, using(crate::proofs::Passing::passes_on, crate::proofs::Passing::passes_same, crate::proofs::Passing::passes_none))]
+fn pass_all<'a>(dues: &mut VecDeque<Due>, bytes: &'a [u8]) -> Result<&'a [u8], NoMemory>
+    ensures passes { IfOk result (λ rest. Passes dues.old.items bytes.now dues.new.items rest.now) }
+    ensures last { IfOk result (λ rest. next dues.new.items rest.now ≡ None) }
+    ensures fewer { IfOk result (λ rest. length rest.now ≤ length bytes.now) }
+{
+    let mut rest = bytes;
+    loop {
+        match pass_one(dues, rest)? {
+            Some(after) => rest = after,
+            None => return Ok(rest),
+        }
+    }
+}
+
+// Passes over the front of the first form, if its bytes are there.
+#[tactic(auto, using(crate::proofs::Passing::no_more))]
+fn pass_one<'a>(dues: &mut VecDeque<Due>, bytes: &'a [u8]) -> Result<Option<&'a [u8]>, NoMemory>
+    ensures some { IfOk result (λ o. IfSome o (λ rest. next dues.old.items bytes.now ≡ Some (dues.new.items, rest.now))) }
+    ensures falls { IfOk result (λ o. IfSome o (λ rest. 2 * length rest.now + length dues.new.items < 2 * length bytes.now + length dues.old.items)) }
+    ensures fewer { IfOk result (λ o. IfSome o (λ rest. length rest.now ≤ length bytes.now)) }
+    ensures none { IfOk result (λ o. IfNone o (next dues.new.items bytes.now ≡ None)) }
+    ensures same { IfOk result (λ o. IfNone o (dues.new.items ≡ dues.old.items)) }
+{
+    match dues.pop_front() {
+        None => Ok(None),
+        Some(first) => {
+            if first.count == 0 {
+                return Ok(Some(bytes));
+            }
+            pass_first(dues, first, bytes)
+        }
+    }
+}
+
+// The same, where the first was taken out, and there is one.
+#[tactic(auto, using(crate::proofs::Passing::next_told, crate::proofs::Passing::next_short))]
+fn pass_first<'a>(
+    dues: &mut VecDeque<Due>,
+    first: Due,
+    bytes: &'a [u8],
+) -> Result<Option<&'a [u8]>, NoMemory>
+    requires { first.count ≢ 0 }
+    ensures some { IfOk result (λ o. IfSome o (λ rest. next (first ∷ dues.old.items) bytes.now ≡ Some (dues.new.items, rest.now))) }
+    ensures falls { IfOk result (λ o. IfSome o (λ rest. 2 * length rest.now + length dues.new.items ≤ 2 * length bytes.now + length dues.old.items)) }
+    ensures fewer { IfOk result (λ o. IfSome o (λ rest. length rest.now ≤ length bytes.now)) }
+    ensures none { IfOk result (λ o. IfNone o (next dues.new.items bytes.now ≡ None)) }
+    ensures same { IfOk result (λ o. IfNone o (dues.new.items ≡ first ∷ dues.old.items)) }
+{
+    let Due { form, count } = first;
+    let size = size_of(form);
+    if bytes.len() < size {
+        dues.push_front(first)?;
+        return Ok(None);
+    }
+    let (front, rest) = bytes.split_at(size);
+    dues.push_front(Due {
+        form,
+        count: count - 1,
+    })?;
+    dues.push_front(due_after(form, front))?;
+    Ok(Some(rest))
+}
+
+// Puts what is due at a place behind what is due.
+fn put_dues(dues: &mut VecDeque<Due>, place: Place) -> Result<(), NoMemory>
+    ensures { OnOk result (dues.new.items ≡ dues.old.items ++ dues_at place) }
+{
+    match place {
+        Place::Start => put(dues, Form::Head),
+        Place::EntryCount | Place::DropCount { .. } | Place::DerivationCount => put(
+            dues,
+            Form::Word,
+        ),
+        Place::Entries { left, .. } => {
+            if left == 0 {
+                return Ok(());
+            }
+            put_entry(dues)
+        }
+        Place::Drops { left } => {
+            if left == 0 {
+                return Ok(());
+            }
+            put(dues, Form::Marks)?;
+            put(dues, Form::Cause)
+        }
+        Place::Derivations { left } => {
+            if left == 0 {
+                return Ok(());
+            }
+            put(dues, Form::Steps)
+        }
+        Place::Over => Ok(()),
+    }
+}
+
+fn put_entry(dues: &mut VecDeque<Due>) -> Result<(), NoMemory>
+    ensures { OnOk result (dues.new.items ≡ dues.old.items ++ entry_dues) }
+{
+    put(dues, Form::Word)?;
+    put(dues, Form::Marks)?;
+    put(dues, Form::Exit)?;
+    put(dues, Form::Answer)?;
+    put(dues, Form::Variables)?;
+    put(dues, Form::Conjuncts)?;
+    put(dues, Form::Atoms)?;
+    put(dues, Form::Atoms)?;
+    put(dues, Form::Values)
+}
+
+fn put(dues: &mut VecDeque<Due>, form: Form) -> Result<(), NoMemory>
+    ensures { OnOk result (dues.new.items ≡ dues.old.items ++ due form 1 ∷ []) }
+{
+    dues.push_back(Due { form, count: 1 })?;
+    Ok(())
+}

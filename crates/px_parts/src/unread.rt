@@ -1,0 +1,242 @@
+ghost use Rattle.std.specs.Prelude.{◌≡◌, ◌↔◌, ◌-◌, ◌≤◌, ◌++◌, true, false, length, take, drop, IsErrOf, OnErr, OnOk};
+ghost use Rattle.px_spelling.specs.declared.fault.WireFault.TheVariants as fault;
+ghost use Rattle.px_parts.specs.declared.place.Place.TheVariants.{Over};
+ghost use Rattle.px_parts.specs.declared.skim.Known.TheVariants.{Short, Whole};
+ghost use Rattle.px_parts.specs.Stream.{IsStuck};
+ghost use Rattle.px_parts.specs.Taking.{IsTakenOn};
+ghost use Rattle.px_parts.specs.Skims.{IsSkim, IsEnded};
+ghost use Rattle.px_parts.specs.Kept.{held_in, kept_after, IsQuiet, IsAnswer, IsSame};
+
+use crate::finding::find;
+use crate::skim::{Known, Skim};
+use crate::{Part, Place, Taken};
+use px_spelling::WireFault;
+use std::alloc::Global;
+
+/// What comes next, and the bytes from there that were taken.
+#[derive(Drop)]
+pub(crate) struct Unread {
+    pub(crate) place: Place,
+    /// Bytes that were taken. The first are of parts that were given.
+    pub(crate) held: Vec<u8>,
+    pub(crate) start: usize,
+    /// How many bytes of the message weren't taken.
+    pub(crate) left: u32,
+    pub(crate) skim: Skim,
+}
+
+/// Takes as much of a piece as is left, and looks for the next part. What comes next is read once when its first bytes are there,
+/// and again when all are.
+#[tactic(auto, using(crate::proofs::Answering::no_memory, crate::proofs::Skimming::skim_not_begun, crate::proofs::Holding::is_behind, crate::proofs::Holding::still_within, crate::proofs::Holding::how_many))]
+pub(crate) fn take_piece(
+    alloc: Global,
+    unread: &mut Unread,
+    piece: &[u8],
+) -> Result<Taken, WireFault>
+    requires within { unread.old.start ≤ length unread.old.held.items }
+    requires skim { IsSkim unread.old.place (held_in unread.old) unread.old.skim }
+    ensures within { unread.new.start ≤ length unread.new.held.items }
+    ensures skim { IsSkim unread.new.place (held_in unread.new) unread.new.skim }
+    ensures taken { IsTakenOn unread.old.place (held_in unread.old) unread.old.left piece.now result (kept_after result unread.new) }
+{
+    let count = piece.len().min(unread.left as usize);
+    hold(alloc, unread, first(piece, count))?;
+    if let Known::Short = look(unread) {
+        unread.left -= count as u32;
+        let behind = count_held(unread);
+        return answer(None, unread.place, behind, unread.left, false, count as u64);
+    }
+    match find(alloc, unread.place, from_start(&unread.held, unread.start)) {
+        Ok(found) => {
+            let (part, place, rest) = found;
+            let behind = rest.len();
+            go_on(unread, place, behind, count as u32);
+            let ended = is_wrong(alloc, unread, &part);
+            answer(part, place, behind, unread.left, ended, count as u64)
+        }
+        Err(fault) => {
+            take_back(unread, count);
+            Err(fault)
+        }
+    }
+}
+
+// So many of the first bytes of a piece.
+fn first(piece: &[u8], count: usize) -> &[u8]
+    requires { count ≤ length piece.now }
+    ensures { result.now ≡ take count piece.now }
+{
+    &piece[..count]
+}
+
+// Bytes from a place on.
+fn from_start(held: &Vec<u8>, start: usize) -> &[u8]
+    requires { start ≤ length held.now.items }
+    ensures { result.now ≡ drop start held.now.items }
+{
+    &held[start..]
+}
+
+// How many bytes of what comes next are held.
+#[tactic(auto, using(crate::proofs::Holding::how_many))]
+fn count_held(unread: &Unread) -> usize
+    ensures { result ≡ length (held_in unread.now) }
+{
+    unread.held.len().saturating_sub(unread.start)
+}
+
+// Takes away so many bytes, those that were put last.
+fn take_back(unread: &mut Unread, count: usize)
+    ensures held { unread.new.held.items ≡ take (length unread.old.held.items - count) unread.old.held.items }
+    ensures start { unread.new.start ≡ unread.old.start }
+    ensures place { unread.new.place ≡ unread.old.place }
+    ensures left { unread.new.left ≡ unread.old.left }
+    ensures begun { unread.new.skim.begun ≡ false }
+{
+    let kept = unread.held.len().saturating_sub(count);
+    unread.held.truncate(kept);
+    unread.skim.begun = false;
+}
+
+// Puts bytes after those that are held. Those of parts that were given are let go.
+#[tactic(auto, using(crate::proofs::Holding::skim_same, crate::proofs::Holding::skim_held, crate::proofs::Holding::held_more))]
+fn hold(alloc: Global, unread: &mut Unread, bytes: &[u8]) -> Result<(), WireFault>
+    requires within { unread.old.start ≤ length unread.old.held.items }
+    requires skim { IsSkim unread.old.place (held_in unread.old) unread.old.skim }
+    ensures within { unread.new.start ≤ length unread.new.held.items }
+    ensures skim { IsSkim unread.new.place (held_in unread.new) unread.new.skim }
+    ensures place { unread.new.place ≡ unread.old.place }
+    ensures left { unread.new.left ≡ unread.old.left }
+    ensures held { OnOk result (held_in unread.new ≡ held_in unread.old ++ bytes.now) }
+    ensures same { OnErr result (held_in unread.new ≡ held_in unread.old) }
+    ensures memory { ¬ IsErrOf result fault.NotAMessage }
+{
+    if bytes.is_empty() {
+        return Ok(());
+    }
+    let_go(alloc, unread)?;
+    unread.held.extend_from_slice(bytes)?;
+    Ok(())
+}
+
+// Lets go the bytes of parts that were given.
+#[tactic(auto, using(crate::proofs::Holding::skim_same))]
+fn let_go(alloc: Global, unread: &mut Unread) -> Result<(), WireFault>
+    requires within { unread.old.start ≤ length unread.old.held.items }
+    requires skim { IsSkim unread.old.place (held_in unread.old) unread.old.skim }
+    ensures within { unread.new.start ≤ length unread.new.held.items }
+    ensures skim { IsSkim unread.new.place (held_in unread.new) unread.new.skim }
+    ensures place { unread.new.place ≡ unread.old.place }
+    ensures left { unread.new.left ≡ unread.old.left }
+    ensures same { held_in unread.new ≡ held_in unread.old }
+    ensures memory { ¬ IsErrOf result fault.NotAMessage }
+{
+    if unread.start > 0 {
+        unread.held = Vec::from_slice(alloc, &unread.held[unread.start..])?;
+        unread.start = 0;
+    }
+    Ok(())
+}
+
+// Passes over what is held of what comes next.
+fn look(unread: &mut Unread) -> Known
+    requires within { unread.old.start ≤ length unread.old.held.items }
+    ensures same { IsSame unread.old unread.new }
+    ensures skim { IsSkim unread.old.place (held_in unread.old) unread.old.skim → IsSkim unread.old.place (held_in unread.old) unread.new.skim }
+    ensures short { IsSkim unread.old.place (held_in unread.old) unread.old.skim → result ≡ Short → IsStuck unread.old.place (held_in unread.old) }
+    ensures whole { IsSkim unread.old.place (held_in unread.old) unread.old.skim → result ≡ Whole → IsEnded unread.old.place (held_in unread.old) }
+{
+    unread.skim.pass(from_start(&unread.held, unread.start))
+}
+
+// Goes on to a place with so many bytes behind it, where so many more were taken.
+#[tactic(auto, using(crate::proofs::Skimming::skim_not_begun))]
+fn go_on(unread: &mut Unread, place: Place, behind: usize, count: u32)
+    requires behind { behind ≤ length unread.old.held.items }
+    requires left { count ≤ unread.old.left }
+    ensures within { unread.new.start ≤ length unread.new.held.items }
+    ensures skim { IsSkim unread.new.place (held_in unread.new) unread.new.skim }
+    ensures place { unread.new.place ≡ place }
+    ensures left { unread.new.left ≡ unread.old.left - count }
+    ensures held { held_in unread.new ≡ drop (length unread.old.held.items - behind) unread.old.held.items }
+{
+    unread.place = place;
+    unread.start = unread.held.len() - behind;
+    unread.left -= count;
+    unread.skim.begun = false;
+}
+
+// Whether nothing was found, though all bytes are there of what comes next.
+fn is_wrong(alloc: Global, unread: &mut Unread, part: &Option<Part>) -> bool
+    requires within { unread.old.start ≤ length unread.old.held.items }
+    requires skim { IsSkim unread.old.place (held_in unread.old) unread.old.skim }
+    ensures same { IsSame unread.old unread.new }
+    ensures skim { IsSkim unread.old.place (held_in unread.old) unread.new.skim }
+    ensures ended { result ≡ true → IsEnded unread.old.place (held_in unread.old) }
+{
+    match part {
+        Some(_) => false,
+        None => is_ended(alloc, unread),
+    }
+}
+
+// Whether all bytes are there of what comes next, which isn't read yet. From now on they are passed over.
+fn is_ended(alloc: Global, unread: &mut Unread) -> bool
+    requires within { unread.old.start ≤ length unread.old.held.items }
+    ensures same { IsSame unread.old unread.new }
+    ensures skim { IsSkim unread.old.place (held_in unread.old) unread.new.skim }
+    ensures ended { result ≡ true → IsEnded unread.old.place (held_in unread.old) }
+{
+    unread.skim = Skim::begin(alloc, unread.place);
+    match look(unread) {
+        Known::Whole => true,
+        Known::Short | Known::Nothing => false,
+    }
+}
+
+// The answer, where so many bytes are behind what was found, and so many weren't taken. They are ended where none is missing of
+// what comes next.
+fn answer(
+    part: Option<Part>,
+    place: Place,
+    behind: usize,
+    left: u32,
+    ended: bool,
+    taken: u64,
+) -> Result<Taken, WireFault>
+    ensures { IsAnswer part place behind left ended taken result }
+{
+    match part {
+        Some(part) => Ok(Taken { part, taken }),
+        None => {
+            let part = quiet(place, behind, left, ended)?;
+            Ok(Taken { part, taken })
+        }
+    }
+}
+
+// Nothing yet, the end, or that there is none.
+fn quiet(place: Place, behind: usize, left: u32, ended: bool) -> Result<Part, WireFault>
+    ensures { IsQuiet place behind left ended result }
+{
+    if left > 0 {
+        if ended {
+            return Err(WireFault::NotAMessage);
+        }
+        return Ok(Part::Held);
+    }
+    if behind == 0 && is_over(place) {
+        Ok(Part::End)
+    } else {
+        Err(WireFault::NotAMessage)
+    }
+}
+
+fn is_over(place: Place) -> bool
+    ensures { result ≡ true ↔ place ≡ Over }
+{
+    match place {
+        Place::Over => true,
+        _ => false,
+    }
+}
