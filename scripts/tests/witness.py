@@ -163,6 +163,9 @@ def test_values_of_an_entry():
     }
     equal(entry.arguments(), [("int", "-7"), ("pointer 2", "block1")])
     equal(entry.inputs(), ["10", "-1"])
+    # a quotient isn't what getchar gives
+    entry.parts["pure"] = "Unequal(x2), Quotient(x4, x0 + 1, x2), Equal(x2 - 10)"
+    equal(entry.inputs(), ["10"])
 
 
 def test_exits_of_entries():

@@ -140,7 +140,6 @@ LEFT_OUT = {
     "parameters": "it has more than 16 parameters: hand some over in a struct",
     "fields": "the struct has more than 64 fields: part it",
     "type": f"a typing rule fails, or a struct or a name that it uses isn't in the files: {READ_ON}",
-    "later": "what divides isn't analysed yet: move `/` and `%` into functions of their own",
     "form": f"it isn't of the grammar: {READ_ON}",
     "directive": "there is no preprocessor: hand over what it would leave",
     "string": "strings aren't read: move what needs them into a function of its own",

@@ -1,6 +1,7 @@
 """What is read of pulsex: the bugs of a report (`check --json`), and their entries in a listing of `summaries`."""
 
 import json
+import re
 
 
 class WitnessError(Exception):
@@ -93,8 +94,14 @@ class Entry:
         """The types and values of the parameters."""
         return [(kind, value) for (sort, kind), value in self.variables() if sort == "given"]
 
+    def quotients(self):
+        """The variables that a division gave, each of which a conjunct says to be a quotient."""
+        return re.findall(r"\bQuotient\((x\d+),", self.parts["pure"])
+
     def inputs(self):
-        return [value for (sort, kind), value in self.variables() if sort == "input"]
+        """The values that getchar gives, in order: those of inputs that are no quotients."""
+        names, quotients = [words.split(" ", 1)[0] for words in self.items("vars")], self.quotients()
+        return [value for name, ((sort, kind), value) in zip(names, self.variables()) if sort == "input" and name not in quotients]
 
     def items(self, part):
         return [] if self.parts[part] == "-" else self.parts[part].split(", ")

@@ -144,6 +144,8 @@ item_few j s h (AfterStep l ∷ k) w = h
 choosing_few : (j : JobTree) (s : State) → IsFew s → (c : Calling) (k : List Item) (w : Way) → GoesFew (choosing_act j s c k w)
 choosing_few j s h c k (way.Entry n) = h
 choosing_few j s h c k way.Drop = tt
+choosing_few j s h c k way.ByZero = tt
+choosing_few j s h c k way.Divided = tt
 choosing_few j s h c k way.Null = tt
 choosing_few j s h c k way.MissingLive = tt
 choosing_few j s h c k way.MissingFreed = tt

@@ -289,6 +289,8 @@ case_stage j x σ rest used p way.Written o s = omega arith
 case_stage j x σ rest used p way.Unwritten o s = omega arith
 case_stage j x σ rest used p (way.Entry n) o s = omega arith
 case_stage j x σ rest used p way.Drop o s = omega arith
+case_stage j x σ rest used p way.ByZero o s = omega arith
+case_stage j x σ rest used p way.Divided o s = omega arith
 
 module _ (j : JobTree) (s : State) (c : Calling) (k : List Item) where
   choosing_falls : (w : Way) → FallsBelow j (acts_left j (going_on c k s choosing)) (choosing_act j s c k w)
@@ -299,6 +301,8 @@ module _ (j : JobTree) (s : State) (c : Calling) (k : List Item) where
       by_stage (3 + most_required j.callees) (256 - length s.trace) (256 - length s.trace) (4000 - s.steps) (4000 - s.steps)
       (stage_acts j (choose_entry j.types s c.arguments o)) (control_acts k) (2 + most_required j.callees) (control_acts k) (omega arith) (omega arith) (omega (arith, h))
   choosing_falls way.Drop = tt
+  choosing_falls way.ByZero = tt
+  choosing_falls way.Divided = tt
   choosing_falls way.Null = tt
   choosing_falls way.MissingLive = tt
   choosing_falls way.MissingFreed = tt

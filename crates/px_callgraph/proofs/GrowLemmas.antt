@@ -26,7 +26,7 @@ use Rattle.px_entry.specs.declared.atoms.AtomState.TheVariants.{Live, Freed}
 use Rattle.px_entry.specs.declared.entries.Entry.{Entry}
 use Rattle.px_entry.specs.declared.entries.Exit.{Exit}
 use Rattle.px_entry.specs.declared.entries.Exit.TheVariants as exit
-use Rattle.px_entry.specs.Decided.{assume, is_true, decided, stands_in}
+use Rattle.px_entry.specs.Decided.{word_of, assume, is_true, decided, stands_in}
 use Rattle.px_entry.specs.Cases.{is_freed}
 use Rattle.px_entry.specs.Contents.{variable_content}
 use Rattle.px_entry.specs.Constraint.{found_atoms, made_atoms}
@@ -37,7 +37,7 @@ use Rattle.px_callgraph.specs.JobTree.{JobTree}
 use Rattle.px_callgraph.specs.States.{on, content_at, operand_content, set_slot, marked, begun, assumed, info, with_variables, with_atom, met}
 use Rattle.px_callgraph.specs.Operations.{operation, condition, contrary}
 use Rattle.px_callgraph.specs.Accesses.{Access, accessed, atom_of, block_cells, cell_infos, meet_live, meet_freed, set_atom, change_atom, load_access, store_access, free_access, use_state, use_atom, reach_atom, reach_missing, access_done}
-use Rattle.px_callgraph.specs.Commands.{read_cell, read_written, read_unwritten, read_done, test_outcome, test_done, last_loop, leaving, make, malloc_done, assume_all, is_input_byte, input_done, returned, return_done, through_place, assign_done, act_done}
+use Rattle.px_callgraph.specs.Commands.{read_cell, read_written, read_unwritten, read_done, test_outcome, test_done, last_loop, leaving, make, malloc_done, assume_all, is_input_byte, input_done, constant_quotient, quotient_by, words_divided, divide_done, returned, return_done, through_place, assign_done, act_done}
 use Rattle.px_callgraph.specs.Renaming.{Substitution, Claim, surely, never, claims, claim_through, assume_claim, state_through, new_variables}
 use Rattle.px_callgraph.specs.Calls.{Calling, take_atom, take_case, meet_required, assume_entry, update_atoms, made_through, leave_atoms, add_trace, result_through, keep_result, end_call, entry_terms, finish_with, stand_all, finish_call}
 
@@ -203,6 +203,8 @@ module _ (types : List BlockType) (block : TypeId) (a : Access) (g : GrowsAll a)
   access_grows p way.Missing s = grows_self s
   access_grows p (way.Entry n) s = grows_self s
   access_grows p way.Drop s = grows_self s
+  access_grows p way.ByZero s = grows_self s
+  access_grows p way.Divided s = grows_self s
 
   through_grows : (o : Option PlaceOf) (w : Way) (s : State) → Grows s (through_place (on s) o (λ p. access_done types block a p w s)).state
   through_grows None w s = grows_self s
@@ -245,6 +247,8 @@ read_grows slot site c way.MissingFreed s = grows_self s
 read_grows slot site c way.Missing s = grows_self s
 read_grows slot site c (way.Entry n) s = grows_self s
 read_grows slot site c way.Drop s = grows_self s
+read_grows slot site c way.ByZero s = grows_self s
+read_grows slot site c way.Divided s = grows_self s
 
 outcome_grows : (to outcome : ℕ) (o : Option Conj) (s : State) → Grows s (test_outcome to outcome o s).state
 outcome_grows to outcome None s = grows_self s
@@ -264,6 +268,8 @@ test_grows to site o p way.MissingFreed s = grows_self s
 test_grows to site o p way.Missing s = grows_self s
 test_grows to site o p (way.Entry n) s = grows_self s
 test_grows to site o p way.Drop s = grows_self s
+test_grows to site o p way.ByZero s = grows_self s
+test_grows to site o p way.Divided s = grows_self s
 
 leaving_grows : (o : Option (Site × ℕ)) (s : State) → Grows s (leaving o s).state
 leaving_grows None s = grows_self s
@@ -290,6 +296,8 @@ malloc_grows types to block site way.MissingFreed s = grows_self s
 malloc_grows types to block site way.Missing s = grows_self s
 malloc_grows types to block site (way.Entry n) s = grows_self s
 malloc_grows types to block site way.Drop s = grows_self s
+malloc_grows types to block site way.ByZero s = grows_self s
+malloc_grows types to block site way.Divided s = grows_self s
 
 assume_all_grows : (cs : List Conj) (s : State) → Grows s (assume_all cs s)
 assume_all_grows [] s = grows_self s
@@ -302,6 +310,41 @@ input_grows to site s =
     let b : State = assume_all (is_input_byte (length s.vars)) v in
     grows_trans s m _ (grows_marked mark.Input site s) (grows_trans m v _ (grows_variables (info sort.Input Int ∷ []) m)
     (grows_trans v b _ (assume_all_grows (is_input_byte (length s.vars)) v) (grows_slot to _ b)))
+
+quotient_grows : (to : ℕ) (p q : Polynomial) (o : Option Content) (s : State) → Grows s (quotient_by to p q o s)
+quotient_grows to p q (Some c) s = grows_slot to c s
+quotient_grows to p q None s =
+    let v : State = with_variables (info sort.Input Int ∷ []) s in
+    let c : Conj = conjunct.Quotient (record { 0 = length s.vars }) p q in
+    grows_trans s v _ (grows_variables (info sort.Input Int ∷ []) s) (grows_trans v (assumed c v) _ (grows_assumed c v) (grows_slot to _ (assumed c v)))
+
+words_grow : (to : ℕ) (site : Site) (w : Way) (s : State) (p q : Polynomial) → Grows s (words_divided to site w s p q).state
+words_grow to site way.ByZero s p q = grows_assumed (conjunct.Equal q) s
+words_grow to site way.Divided s p q =
+    let t : State = assumed (conjunct.Unequal q) s in
+    grows_trans s t _ (grows_assumed (conjunct.Unequal q) s) (quotient_grows to p q (constant_quotient (word_of p) (word_of q)) t)
+words_grow to site way.On s p q = grows_self s
+words_grow to site way.Then s p q = grows_self s
+words_grow to site way.Else s p q = grows_self s
+words_grow to site way.Null s p q = grows_self s
+words_grow to site way.Made s p q = grows_self s
+words_grow to site way.Written s p q = grows_self s
+words_grow to site way.Unwritten s p q = grows_self s
+words_grow to site (way.Atom n) s p q = grows_self s
+words_grow to site way.MissingLive s p q = grows_self s
+words_grow to site way.MissingFreed s p q = grows_self s
+words_grow to site way.Missing s p q = grows_self s
+words_grow to site (way.Entry n) s p q = grows_self s
+words_grow to site way.Drop s p q = grows_self s
+
+divide_grows : (to : ℕ) (site : Site) (a b : Content) (w : Way) (s : State) → Grows s (divide_done to site a b w s).state
+divide_grows to site (Word p) (Word q) w s = words_grow to site w s p q
+divide_grows to site (Word p) Unwritten w s = grows_self s
+divide_grows to site (Word p) (Place b) w s = grows_self s
+divide_grows to site (Word p) (Cell y) w s = grows_self s
+divide_grows to site Unwritten b w s = grows_self s
+divide_grows to site (Place a) b w s = grows_self s
+divide_grows to site (Cell x) b w s = grows_self s
 
 return_grows : (o : Option (Option Content)) (s : State) → Grows s (return_done o s).state
 return_grows None s = grows_self s
@@ -327,7 +370,7 @@ act_grows j (return from) w s = return_grows (returned s j.body.result from) s
 act_grows j break w s = grows_same s _ refl refl refl refl refl
 act_grows j continue w s = grows_self s
 act_grows j (stop word site) w s = grows_self s
-act_grows j (divide to a b site) w s = grows_self s
+act_grows j (divide to a b site) w s = divide_grows to site (operand_content s a) (operand_content s b) w s
 
 -- ---- calls
 
@@ -361,6 +404,8 @@ case_grows types x σ rest used p way.Written o s = grows_self s
 case_grows types x σ rest used p way.Unwritten o s = grows_self s
 case_grows types x σ rest used p (way.Entry n) o s = grows_self s
 case_grows types x σ rest used p way.Drop o s = grows_self s
+case_grows types x σ rest used p way.ByZero o s = grows_self s
+case_grows types x σ rest used p way.Divided o s = grows_self s
 
 claim_extends : (vars : List VarInfo) (pure : List Conj) (c : Claim) → Extends pure (assume_claim vars pure c)
 claim_extends vars pure surely = extends_same refl

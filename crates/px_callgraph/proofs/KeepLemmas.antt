@@ -2,7 +2,7 @@
 use Rattle.std.proofs.Common.{◌≡◌, ℕ, suc, ◌+◌, pos, negsuc, List, [], ◌∷◌, map, length, Bool, true, false, not, nat_lt, nat_eq, ◌&&◌, ◌||◌, ◌⊎◌, inl, inr, Option, Some, None, slice_get, slice_set, refl, ap, sym, ◌∙◌, arith, subst}
 use Rattle.std.specs.Prelude.{is_some}
 use Rattle.std.specs.List.{list_any}
-use Rattle.std.proofs.lemmas.Bool.{and_parts, and_from, or_left, or_right}
+use Rattle.std.proofs.lemmas.Bool.{and_parts, and_from, or_cases, or_left, or_right}
 use Rattle.px_base.specs.declared.trace.Site.{Site}
 use Rattle.px_base.specs.declared.trace.MarkKind.TheVariants as mark
 use Rattle.px_terms.specs.Polynomials.{Polynomial}
@@ -25,8 +25,8 @@ use Rattle.px_entry.specs.declared.atoms.Atom.{Atom}
 use Rattle.px_entry.specs.declared.atoms.AtomState.{AtomState}
 use Rattle.px_entry.specs.declared.atoms.AtomState.TheVariants.{Live, Freed}
 use Rattle.px_entry.specs.declared.tables.LongKind.{LongKind}
-use Rattle.px_entry.specs.Sorts.{is_well_sorted, is_pointer, is_int, is_made, is_long}
-use Rattle.px_entry.specs.Decided.{is_open, is_false, decided}
+use Rattle.px_entry.specs.Sorts.{is_well_sorted, is_pointer, is_int, is_made, is_int_polynomial, is_long}
+use Rattle.px_entry.specs.Decided.{word_of, is_open, is_false, decided}
 use Rattle.px_entry.specs.Cases.{may_be_at, may_be_missing, numbers_of}
 use Rattle.px_entry.specs.Contents.{variable_content}
 use Rattle.px_entry.proofs.Lists.{Each, each_append}
@@ -37,10 +37,10 @@ use Rattle.px_callgraph.specs.JobTree.{JobTree}
 use Rattle.px_callgraph.specs.States.{Outcome, goes, ends, past, drops, Done, on, operand_content, content_at, number, marked, begun, assumed, info, with_variables, met}
 use Rattle.px_callgraph.specs.Operations.{operation, condition, contrary}
 use Rattle.px_callgraph.specs.Accesses.{Access, listed_if, atom_ways, missing_ways, access_ways, accessed, access_done, cell_infos, block_cells, cell_contents, atom_of, meet_live, meet_freed, use_state, use_atom, reach_atom, load_access, store_access, free_access}
-use Rattle.px_callgraph.specs.Commands.{read_ways, read_cell, read_done, open_if, test_outcome, test_done, last_loop, leaving, malloc_ways, make, malloc_done, input_done, returned, return_done, through_place, pointer_ways, pointer_done, assign_done, command_ways, command_done}
+use Rattle.px_callgraph.specs.Commands.{read_ways, read_cell, read_done, open_if, test_outcome, test_done, last_loop, leaving, malloc_ways, make, malloc_done, input_done, constant_quotient, quotient_by, words_divided, divide_ways, divide_done, returned, return_done, through_place, pointer_ways, pointer_done, assign_done, command_ways, command_done}
 use Rattle.px_callgraph.specs.Alternatives.{Walk, Leads, limits_of, passes, first_true, limited, led, within_limits, leads}
 use Rattle.px_callgraph.specs.Laws.{IsSorted, IsKept, KeepsState}
-use Rattle.px_callgraph.proofs.SortLemmas.{variable_next, sorted_variables, sorted_assumed, sorted_with_atom, sorted_met, sorted_changed, kept_slot, open_cases, long_terms}
+use Rattle.px_callgraph.proofs.SortLemmas.{variable_next, polynomial_more, sorted_variables, sorted_assumed, sorted_with_atom, sorted_met, sorted_changed, kept_slot, open_cases, long_terms}
 
 -- ---- limits of a path
 
@@ -328,6 +328,44 @@ module _ (j : JobTree) (s : State) (h : IsSorted s) where
       let q = sorted_assumed (assumed one t) two p (and_from _ _ (and_from _ _ int refl) refl) in
       inr (kept_slot s (assumed two (assumed one t)) to (Word (variable x)) (record { sorted = q; slots = refl }))
 
+  quotient_keeps : (to : ℕ) (p q : Polynomial) (o : Option Content) (t : State) → IsKept s t → is_int_polynomial t.vars p ≡ true → is_int_polynomial t.vars q ≡ true → IsKept s (quotient_by to p q o t)
+  quotient_keeps to p q (Some c) t k e f = kept_slot s t to c k
+  quotient_keeps to p q None t k e f =
+      let i = info sort.Input Int in
+      let v : State = with_variables (i ∷ []) t in
+      let c = conjunct.Quotient (record { 0 = length t.vars }) p q in
+      let int : is_int v.vars (length t.vars) ≡ true = variable_next t.vars i _ refl in
+      let g = sorted_assumed v c (sorted_variables t (i ∷ []) k.sorted) (and_from _ _ int (and_from _ _ (polynomial_more t.vars (i ∷ []) p e) (polynomial_more t.vars (i ∷ []) q f))) in
+      kept_slot s (assumed c v) to (Word (variable (length t.vars))) (record { sorted = g; slots = k.slots })
+
+  zero_keeps : (to : ℕ) (site : Site) (p q : Polynomial) → is_open s.vars (conjunct.Equal q) ≡ true → IsGood s (words_divided to site way.ByZero (begun s) p q)
+  zero_keeps to site p q e = elim (open_cases s.vars (conjunct.Equal q) e) [
+    | inl l ↦ inl (long_terms (conjunct.Equal q) l)
+    | inr r ↦ inr (kept_assumed s (begun s) (conjunct.Equal q) (begin s h) r)
+  ]
+
+  other_keeps : (to : ℕ) (site : Site) (p q : Polynomial) → (is_open s.vars (conjunct.Unequal q) && (is_long p || is_int_polynomial s.vars p)) ≡ true → IsGood s (words_divided to site way.Divided (begun s) p q)
+  other_keeps to site p q e =
+      let f = and_parts (is_open s.vars (conjunct.Unequal q)) (is_long p || is_int_polynomial s.vars p) e in
+      by (open_cases s.vars (conjunct.Unequal q) f.0) (or_cases (is_long p) (is_int_polynomial s.vars p) f.1)
+    where
+      by : (is_long q ≡ true) ⊎ (is_int_polynomial s.vars q ≡ true) → (is_long p ≡ true) ⊎ (is_int_polynomial s.vars p ≡ true) → IsGood s (words_divided to site way.Divided (begun s) p q)
+      by (inl l) w = inl (or_right (is_long p) (is_long q || false) (or_left (is_long q) false l))
+      by (inr r) (inl l) = inl (or_left (is_long p) (is_long q || false) l)
+      by (inr r) (inr i) =
+          inr (quotient_keeps to p q (constant_quotient (word_of p) (word_of q)) (assumed (conjunct.Unequal q) (begun s)) (kept_assumed s (begun s) (conjunct.Unequal q) (begin s h) r) i r)
+
+  divide_keeps : (to : ℕ) (site : Site) (a b : Content) → Each (λ w. IsGood s (divide_done to site a b w (begun s))) (divide_ways s.vars a b)
+  divide_keeps to site (Word p) (Word q) =
+      each_append _ _ _ (listed _ (is_open s.vars (conjunct.Equal q)) way.ByZero (zero_keeps to site p q))
+      (listed _ (is_open s.vars (conjunct.Unequal q) && (is_long p || is_int_polynomial s.vars p)) way.Divided (other_keeps to site p q))
+  divide_keeps to site (Word p) Unwritten = tt
+  divide_keeps to site (Word p) (Place b) = tt
+  divide_keeps to site (Word p) (Cell y) = tt
+  divide_keeps to site Unwritten b = tt
+  divide_keeps to site (Place a) b = tt
+  divide_keeps to site (Cell x) b = tt
+
   return_keeps : (o : Option (Option Content)) → IsGood s (return_done o (begun s))
   return_keeps None = inr (begin s h)
   return_keeps (Some result) = inr (record { sorted = record { pure = h.pure; atoms = h.atoms }; slots = refl })
@@ -355,4 +393,4 @@ module _ (j : JobTree) (s : State) (h : IsSorted s) where
   command_keeps break = listed _ _ way.On (λ e. inr (record { sorted = record { pure = h.pure; atoms = h.atoms }; slots = refl }))
   command_keeps continue = listed _ _ way.On (λ e. inr (begin s h))
   command_keeps (stop word site) = (tt, tt)
-  command_keeps (divide to a b site) = tt
+  command_keeps (divide to a b site) = divide_keeps to site (operand_content s a) (operand_content s b)

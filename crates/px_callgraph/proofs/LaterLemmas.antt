@@ -206,6 +206,8 @@ item_grows j s (AfterStep l ∷ k) w = grows_self s
 choosing_grows : (j : JobTree) (s : State) (c : Calling) (k : List Item) (w : Way) → Grows s (state_of (choosing_act j s c k w))
 choosing_grows j s c k (way.Entry n) = grows_self s
 choosing_grows j s c k way.Drop = grows_self s
+choosing_grows j s c k way.ByZero = grows_self s
+choosing_grows j s c k way.Divided = grows_self s
 choosing_grows j s c k way.Null = grows_self s
 choosing_grows j s c k way.MissingLive = grows_self s
 choosing_grows j s c k way.MissingFreed = grows_self s

@@ -55,7 +55,7 @@ below_more [] new x l = let n : ⊥ = omega arith in absurd n
 below_more (i ∷ vars) new zero l = omega arith
 below_more (i ∷ vars) new (suc x) l = let h = below_more vars new x (omega arith) in omega arith
 
-polynomial_more : (vars new : List VarInfo) (p : Polynomial) → is_int_polynomial vars p ≡ true → is_int_polynomial (vars ++ new) p ≡ true
+pub polynomial_more : (vars new : List VarInfo) (p : Polynomial) → is_int_polynomial vars p ≡ true → is_int_polynomial (vars ++ new) p ≡ true
 polynomial_more vars new p e = all_more (is_int vars) (is_int (vars ++ new)) (λ x. variable_more vars new _ x) (variables_of p) e
 
 place_more : (vars new : List VarInfo) (a : Place) → is_pointer_place vars a ≡ true → is_pointer_place (vars ++ new) a ≡ true

@@ -1,9 +1,10 @@
 -- What is listed of a command, by name, and where each name leads. Limits are no matter here.
-use Rattle.std.specs.Prelude.{ℕ, suc, pos, negsuc, Bool, true, false, nat_eq, nat_lt, List, [], ◌∷◌, ◌++◌, length, map, Option, Some, None, slice_get, is_some}
+use Rattle.std.specs.Prelude.{ℕ, suc, pos, negsuc, Bool, true, false, nat_eq, nat_lt, ◌&&◌, ◌||◌, List, [], ◌∷◌, ◌++◌, length, map, Option, Some, None, slice_get, is_some}
 use Rattle.std.specs.List.{list_all}
 use Rattle.px_base.specs.declared.trace.Site.{Site}
 use Rattle.px_base.specs.declared.trace.MarkKind.TheVariants as mark
-use Rattle.px_base.specs.declared.trace.Kind.TheVariants.{UninitialisedRead}
+use Rattle.px_base.specs.declared.trace.Kind.TheVariants.{UninitialisedRead, DivisionByZero}
+use Rattle.px_terms.specs.Words.{word_quotient}
 use Rattle.px_terms.specs.Polynomials.{Polynomial}
 use Rattle.px_terms.specs.Substitutions.{variable}
 use Rattle.px_terms.specs.declared.types.TypeId.{TypeId}
@@ -23,15 +24,15 @@ use Rattle.px_core.specs.declared.command.Operand.{Operand}
 use Rattle.px_core.specs.CommandTree.{CommandTree, assign, unset, read, test, choose, loop, leave, load, store, malloc, free, input, call, return, break, continue, stop, divide}
 use Rattle.px_entry.specs.declared.atoms.AtomState.TheVariants.{Live}
 use Rattle.px_entry.specs.declared.entries.Exit.TheVariants as exit
-use Rattle.px_entry.specs.Sorts.{is_some_and}
-use Rattle.px_entry.specs.Decided.{is_open}
+use Rattle.px_entry.specs.Sorts.{is_some_and, is_long, is_int_polynomial}
+use Rattle.px_entry.specs.Decided.{word_of, is_open}
 use Rattle.px_entry.specs.Contents.{fits_cell, variable_content}
 use Rattle.px_callgraph.specs.declared.states.State.{State}
 use Rattle.px_callgraph.specs.declared.states.Way.{Way}
 use Rattle.px_callgraph.specs.declared.states.Way.TheVariants as way
 use Rattle.px_callgraph.specs.JobTree.{JobTree}
-use Rattle.px_callgraph.specs.States.{ends, past, Done, on, fails, stops, unfollowed, operand_content, content_at, number, set_slot, marked, begun, assumed, info, with_variables, with_atom}
-use Rattle.px_callgraph.specs.Operations.{operation, made_terms, condition, contrary, conjunct_terms}
+use Rattle.px_callgraph.specs.States.{ends, past, Done, on, fails, stops, operand_content, content_at, number, set_slot, marked, begun, assumed, info, with_variables, with_atom}
+use Rattle.px_callgraph.specs.Operations.{of_words, operation, made_terms, condition, contrary, conjunct_terms}
 use Rattle.px_callgraph.specs.Accesses.{Access, listed_if, access_ways, accessed, access_done, load_access, store_access, free_access, block_cells, atom_of}
 
 -- ---- read
@@ -154,6 +155,47 @@ abbrev pub input_done : ℕ → Site → State → Done
 input_done to site s =
     on (set_slot to (Word (variable (length s.vars))) (assume_all (is_input_byte (length s.vars)) (with_variables (info sort.Input Int ∷ []) (marked mark.Input site s))))
 
+-- ---- division
+
+-- the quotient of two constants; none is by 0
+abbrev pub constant_quotient : Option ℕ → Option ℕ → Option Content
+constant_quotient (Some m) (Some n) = elim (nat_eq n 0) [ true ↦ None | false ↦ Some (Word (record { constant = word_quotient m n; monomials = [] })) ]
+constant_quotient (Some m) None = None
+constant_quotient None n = None
+
+-- a quotient that isn't a constant is a new input
+abbrev pub quotient_by : ℕ → Polynomial → Polynomial → Option Content → State → State
+quotient_by to p q None s =
+    set_slot to (Word (variable (length s.vars))) (assumed (conjunct.Quotient (record { 0 = length s.vars }) p q) (with_variables (info sort.Input Int ∷ []) s))
+quotient_by to p q (Some c) s = set_slot to c s
+
+-- By 0 it fails; else there is a quotient. What the quotient is of has to be a word, which a polynomial that is too
+-- long isn't asked.
+abbrev pub word_ways : List VarInfo → Polynomial → Polynomial → List Way
+word_ways vars p q =
+    listed_if (is_open vars (conjunct.Equal q)) way.ByZero
+    ++ listed_if (is_open vars (conjunct.Unequal q) && (is_long p || is_int_polynomial vars p)) way.Divided
+
+abbrev pub or_none : Option (List Way) → List Way
+or_none None = []
+or_none (Some ways) = ways
+
+-- contents that aren't words aren't divided
+abbrev pub divide_ways : List VarInfo → Content → Content → List Way
+divide_ways vars a b = or_none (of_words (word_ways vars) a b)
+
+abbrev pub words_divided : ℕ → Site → Way → State → Polynomial → Polynomial → Done
+words_divided to site way.ByZero s p q = record (fails DivisionByZero site (assumed (conjunct.Equal q) s)) { terms = q ∷ [] }
+words_divided to site way.Divided s p q = record (on (quotient_by to p q (constant_quotient (word_of p) (word_of q)) (assumed (conjunct.Unequal q) s))) { terms = p ∷ q ∷ [] }
+words_divided to site _ s p q = on s
+
+abbrev pub or_stays : State → Option Done → Done
+or_stays s None = on s
+or_stays s (Some d) = d
+
+abbrev pub divide_done : ℕ → Site → Content → Content → Way → State → Done
+divide_done to site a b w s = or_stays s (of_words (words_divided to site w s) a b)
+
 -- ---- return
 
 -- the result of a procedure with this type of results, where it returns so
@@ -216,8 +258,7 @@ command_ways j s (return from) = listed_if (is_some (returned s j.body.result fr
 command_ways j s break = listed_if (is_some (last_loop s.loops)) way.On
 command_ways j s continue = listed_if (is_some (last_loop s.loops)) way.On
 command_ways j s (stop word site) = way.Drop ∷ []
--- as yet a division lists nothing
-command_ways j s (divide to a b site) = []
+command_ways j s (divide to a b site) = divide_ways s.vars (operand_content s a) (operand_content s b)
 
 abbrev pub assign_done : ℕ → List Polynomial → Option Content → State → Done
 assign_done to terms None s = on s
@@ -248,7 +289,7 @@ act_done j (return from) w s = return_done (returned s j.body.result from) s
 act_done j break w s = on (leave_loop s)
 act_done j continue w s = on s
 act_done j (stop word site) w s = stops word s
-act_done j (divide to a b site) w s = unfollowed s
+act_done j (divide to a b site) w s = divide_done to site (operand_content s a) (operand_content s b) w s
 
 -- where a listed way of a command leads
 abbrev pub command_done : JobTree → CommandTree → Way → State → Done

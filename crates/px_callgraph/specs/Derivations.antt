@@ -5,7 +5,7 @@
 use Rattle.std.specs.Prelude.{◌≡◌, ◌⊎◌, ℕ, zero, suc, ◌&&◌, Bool, true, false, nat_eq, List, [], ◌∷◌, length, Option, Some, None, slice_get}
 use Rattle.std.specs.List.{list_any}
 use Rattle.px_terms.specs.declared.conjuncts.Content.{Content}
-use Rattle.px_core.specs.CommandTree.{CommandTree, assign, unset, read, test, choose, loop, leave, load, store, malloc, free, input, call, return, break, continue}
+use Rattle.px_core.specs.CommandTree.{CommandTree, assign, unset, read, test, choose, loop, leave, load, store, malloc, free, input, call, return, break, continue, divide}
 use Rattle.px_core.specs.Control.{Item, Act, AfterHead, AfterBody, AfterStep}
 use Rattle.px_entry.specs.declared.atoms.Atom.{Atom}
 use Rattle.px_entry.specs.declared.entries.Entry.{Entry}
@@ -41,6 +41,8 @@ same_way way.MissingFreed way.MissingFreed = true
 same_way way.Missing way.Missing = true
 same_way (way.Entry m) (way.Entry n) = nat_eq m n
 same_way way.Drop way.Drop = true
+same_way way.ByZero way.ByZero = true
+same_way way.Divided way.Divided = true
 same_way _ _ = false
 
 -- the path goes on or ends; a step never leads to a drop or past the bound of a loop
@@ -106,6 +108,8 @@ command_way atoms (free at block site) rule.MissingFreed cs = alone cs way.Missi
 command_way atoms (input to site) rule.Input cs = alone cs way.On
 command_way atoms break rule.Assign cs = alone cs way.On
 command_way atoms continue rule.Assign cs = alone cs way.On
+command_way atoms (divide to a b site) rule.Divide cs = alone cs way.Divided
+command_way atoms (divide to a b site) rule.DivideZero cs = alone cs way.ByZero
 command_way atoms _ _ cs = None
 
 -- At a place of a call a choice is the entry's number, or an atom's, or that of the atoms that there are: the block

@@ -16,6 +16,7 @@ pub mod Callees
 pub mod Derivations
 pub mod WorkedStates
 pub mod WorkedCommands
+pub mod WorkedDivisions
 pub mod WorkedBlocks
 pub mod WorkedCalls
 pub mod WorkedPaths

@@ -90,10 +90,6 @@ on s = record { state = s; terms = []; outcome = goes }
 abbrev pub fails : Kind → Site → State → Done
 fails kind site s = record { state = s; terms = []; outcome = ends (Error kind site) None }
 
--- what no act says yet
-abbrev pub unfollowed : State → Done
-unfollowed s = record { state = s; terms = []; outcome = past }
-
 -- what isn't understood is reached
 abbrev pub stops : ℕ → State → Done
 stops word s = record { state = s; terms = []; outcome = drops word }

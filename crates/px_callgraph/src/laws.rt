@@ -1,6 +1,7 @@
 ghost use Rattle.px_callgraph.specs.Ranks.{RanksAreUnique, RanksRise};
 ghost use Rattle.px_callgraph.specs.Laws.{ActsLessen, ConstraintsAreSorted, ConstraintsGrow, ReachedAreAskable, ReachedKeepStates, WaysKeepStates};
 ghost use Rattle.px_callgraph.specs.WorkedCommands.{WorkedWords, WorkedLoops, WorkedLimits};
+ghost use Rattle.px_callgraph.specs.WorkedDivisions.{WorkedDivisions};
 ghost use Rattle.px_callgraph.specs.WorkedBlocks.{WorkedBlocks};
 ghost use Rattle.px_callgraph.specs.WorkedCalls.{WorkedCalls};
 ghost use Rattle.px_callgraph.specs.WorkedCallees.{WorkedCallees};
@@ -22,6 +23,7 @@ pub fn worked_alternatives()
     ensures words { WorkedWords }
     ensures loops { WorkedLoops }
     ensures limits { WorkedLimits }
+    ensures divisions { WorkedDivisions }
     ensures blocks { WorkedBlocks }
     ensures calls { WorkedCalls }
 {}

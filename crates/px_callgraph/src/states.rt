@@ -61,4 +61,8 @@ pub enum Way {
     Entry(u32),
     /// A call goes where no entry of the callee says, or what isn't understood is reached.
     Drop,
+    /// What is divided by is 0.
+    ByZero,
+    /// What is divided by isn't 0.
+    Divided,
 }

@@ -6,3 +6,4 @@ pub mod AssumeLemmas
 pub mod LeaveLemmas
 pub mod FinishLemmas
 pub mod ResultLemmas
+pub mod ListedLemmas

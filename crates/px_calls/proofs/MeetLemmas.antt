@@ -156,6 +156,8 @@ no_place types x g p way.MissingFreed s = refl
 no_place types x g p way.Missing s = refl
 no_place types x g p (way.Entry n) s = refl
 no_place types x g p way.Drop s = refl
+no_place types x g p way.ByZero s = refl
+no_place types x g p way.Divided s = refl
 
 -- beyond the last atom there is none
 pub null_taken : (types : List BlockType) (x : Entry) (g : Progress) (p : Atom) (s : State) → taken_missing types x g p place.Null s ≡ record { state = s; stage = unfit }

@@ -5,3 +5,4 @@ pub mod Meeting
 pub mod Assuming
 pub mod Leaving
 pub mod Finishing
+pub mod Listed

@@ -3,7 +3,9 @@ ghost use Rattle.std.specs.Option.{option_copied};
 ghost use Rattle.px_callgraph.specs.Calls as spec;
 ghost use Rattle.px_callgraph.specs.JobTree.{callee_in};
 ghost use Rattle.px_callgraph.specs.declared.states.Way.TheVariants as way;
+ghost use Rattle.px_ways.specs.Listed.{lists};
 ghost use Rattle.px_calls.specs.Calls.{or_unknown};
+ghost use Rattle.px_calls.specs.Listed as listed;
 
 use px_base::ProcId;
 use px_callgraph::{Callee, Way};
@@ -52,6 +54,48 @@ pub(crate) fn callee_ways(alloc: Global, callee: Option<&Callee>) -> Result<Vec<
     match callee {
         Some(Callee::Table(table)) => table_ways(alloc, table),
         _ => drop_alone(alloc),
+    }
+}
+
+/// Whether a way is one to choose an entry of a callee, or a drop where there is one. No list is made.
+pub(crate) fn is_callee_way(callee: Option<&Callee>, way: Way) -> bool
+    ensures { result ≡ lists (spec.callee_ways (or_unknown (option_copied callee.entry))) way }
+{
+    match callee {
+        Some(Callee::Table(table)) => is_table_way(table, way),
+        _ => is_drop(way),
+    }
+}
+
+fn is_drop(name: Way) -> bool
+    ensures { result ≡ lists (way.Drop ∷ []) name }
+{
+    matches!(name, Way::Drop)
+}
+
+#[tactic(auto, using(crate::proofs::ListedLemmas::choices))]
+fn is_table_way(table: &Table, way: Way) -> bool
+    ensures { result ≡ lists (spec.entry_ways 0 table.now.entries ++ spec.drop_way table.now.drops) way }
+{
+    is_choice(table.entries.as_slice(), table.drops.as_slice(), way)
+}
+
+fn is_choice(entries: &[Entry], drops: &[Gap], way: Way) -> bool
+    ensures { result ≡ listed.is_choice entries.now drops.now way }
+{
+    match way {
+        Way::Entry(n) => (n as usize) < entries.len(),
+        Way::Drop => has_drops(drops),
+        _ => false,
+    }
+}
+
+fn has_drops(drops: &[Gap]) -> bool
+    ensures { result ≡ listed.is_choice [] drops.now way.Drop }
+{
+    match drops {
+        [] => false,
+        [_, ..] => true,
     }
 }
 

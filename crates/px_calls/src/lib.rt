@@ -19,4 +19,4 @@ mod required;
 pub use acts::call_act;
 pub use call::{Call, CallProgress, Calling, Matching, Stage, copy_call};
 pub use entering::enter;
-pub use names::{call_ways, stage_way};
+pub use names::{call_ways, is_call_way, stage_way};

@@ -1,16 +1,17 @@
 ghost use Rattle.std.specs.Prelude.{◌≡◌, ◌<◌, ◌^◌, List, length, IfOk};
 ghost use Rattle.px_entry.specs.declared.atoms.Atom.{Atom};
-ghost use Rattle.px_callgraph.specs.declared.states.Way.TheVariants as way;
+ghost use Rattle.px_callgraph.specs.declared.states.Way.TheVariants as variant;
 ghost use Rattle.px_callgraph.specs.JobTree.{JobTree, job_tree};
 ghost use Rattle.px_callgraph.specs.Accesses.{listed_if};
 ghost use Rattle.px_callgraph.specs.Calls as calls;
 ghost use Rattle.px_callgraph.specs.Alternatives as spec;
 ghost use Rattle.px_callgraph.specs.Derivations as derivations;
+ghost use Rattle.px_ways.specs.Listed.{lists};
 ghost use Rattle.px_calls.specs.Calls.{call_of, stage_of, matching_stage};
 
-use crate::callees::{callee_ways, find_callee};
+use crate::callees::{callee_ways, find_callee, is_callee_way};
 use crate::possible::is_possible;
-use crate::required::required_ways;
+use crate::required::{is_required_way, required_ways};
 use crate::{Call, Matching, Stage};
 use px_callgraph::{Job, State, Way};
 use px_terms::NoMemory;
@@ -50,13 +51,64 @@ fn matching_ways(alloc: Global, state: &State, matching: &Matching) -> Result<Ve
 
 // The only way, where it is listed.
 fn on_if(alloc: Global, listed: bool) -> Result<Vec<Way>, NoMemory>
-    ensures { IfOk result (λ r. r.items ≡ listed_if listed way.On) }
+    ensures { IfOk result (λ r. r.items ≡ listed_if listed variant.On) }
 {
     let mut found = Vec::new(alloc);
     if listed {
         found.push(Way::On)?;
     }
     Ok(found)
+}
+
+/// Whether a way is listed at a place of a call. The others aren't looked at, and no list is made.
+pub fn is_call_way(
+    alloc: Global,
+    job: &Job,
+    state: &State,
+    call: &Call,
+    way: Way,
+) -> Result<bool, NoMemory>
+    ensures { IfOk result (λ yes. yes ≡ lists (spec.stage_ways (job_tree job.now) state.now (call_of call.now).0 (call_of call.now).1) way) }
+{
+    match &call.stage {
+        Stage::Choosing => Ok(is_callee_way(
+            find_callee(job.callees.as_slice(), call.calling.proc),
+            way,
+        )),
+        Stage::Matching(matching) => is_matching_way(alloc, state, matching, way),
+        Stage::Unfit => Ok(false),
+    }
+}
+
+// The same where an entry was chosen.
+fn is_matching_way(
+    alloc: Global,
+    state: &State,
+    matching: &Matching,
+    way: Way,
+) -> Result<bool, NoMemory>
+    ensures { IfOk result (λ yes. (j : JobTree) (c : calls.Calling) → yes ≡ lists (spec.stage_ways j state.now c (matching_stage matching.now)) way) }
+{
+    match matching.entry.pre.get(matching.met) {
+        Some(required) => Ok(is_required_way(
+            state,
+            &matching.substitution,
+            &matching.used,
+            required,
+            way,
+        )),
+        None => is_on(alloc, state, matching, way),
+    }
+}
+
+// Whether it is the only way where all blocks are met, and the entry is possible.
+fn is_on(alloc: Global, state: &State, matching: &Matching, way: Way) -> Result<bool, NoMemory>
+    ensures { IfOk result (λ yes. yes ≡ lists (listed_if (calls.is_possible matching.now.entry.now (calls.stand_all matching.now.entry.now matching.now.substitution.items state.now) state.now) variant.On) way) }
+{
+    match way {
+        Way::On => is_possible(alloc, state, matching),
+        _ => Ok(false),
+    }
 }
 
 /// The way that a choice of a derivation's step names at a stage, where there are so many atoms.

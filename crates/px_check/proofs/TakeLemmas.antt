@@ -35,6 +35,8 @@ same_sound way.MissingFreed way.MissingFreed e = refl
 same_sound way.Missing way.Missing e = refl
 same_sound (way.Entry m) (way.Entry n) e = ap way.Entry (eqb-true m n e)
 same_sound way.Drop way.Drop e = refl
+same_sound way.ByZero way.ByZero e = refl
+same_sound way.Divided way.Divided e = refl
 same_sound _ _ e = cc
 
 pub there_is : (a b : Leads) → still_there a ≡ Some b → a ≡ b

@@ -1,26 +1,12 @@
 ghost use Rattle.std.specs.Prelude.{◌≡◌, IfOk, option_map};
-ghost use Rattle.std.specs.List.{list_any};
 ghost use Rattle.px_callgraph.specs.JobTree.{job_tree};
 ghost use Rattle.px_callgraph.specs.Derivations as spec;
 ghost use Rattle.px_walks.specs.Walks.{walk_of, leads_of};
 
 use px_callgraph::{Job, StepOutcome, Way};
 use px_terms::NoMemory;
-use px_walks::{Walk, act, ways};
+use px_walks::{Walk, act, is_listed};
 use std::alloc::Global;
-
-fn same_way(a: Way, b: Way) -> bool
-    ensures { result ≡ spec.same_way a b }
-{
-    a == b
-}
-
-// Whether a way is among those that are listed.
-fn is_listed(listed: &[Way], way: Way) -> bool
-    ensures { result ≡ list_any (spec.same_way way) listed.now }
-{
-    listed.iter().any(|other| same_way(way, *other))
-}
 
 // What an act leads to where the path goes on or ends.
 fn still_there(leads: StepOutcome<Walk>) -> Option<StepOutcome<Walk>>
@@ -41,8 +27,7 @@ pub(crate) fn take_listed<'a>(
 ) -> Result<Option<StepOutcome<Walk<'a>>>, NoMemory>
     ensures { IfOk result (λ leads. option_map leads_of leads ≡ spec.take_listed (job_tree job.now) (walk_of walk.entry) way) }
 {
-    let listed = ways(alloc, job, &walk)?;
-    if is_listed(&listed, way) {
+    if is_listed(alloc, job, &walk, way)? {
         Ok(still_there(act(alloc, job, walk, way)?))
     } else {
         Ok(None)

@@ -162,6 +162,16 @@ fn input_way(rule: Rule, choices: &[u32]) -> Option<Way>
     }
 }
 
+fn divide_way(rule: Rule, choices: &[u32]) -> Option<Way>
+    ensures { (atoms : List AtomOf) (to : ℕ) (a b : Operand) (site : SiteOf) → result ≡ spec.command_way atoms (tree.divide to a b site) rule choices.now }
+{
+    match rule {
+        Rule::Divide => alone(choices, Way::Divided),
+        Rule::DivideZero => alone(choices, Way::ByZero),
+        _ => None,
+    }
+}
+
 // The way of a command that a step takes, where the rule is the command's.
 #[tactic(auto, using(px_core::proofs::CommandEquations::trees))]
 fn command_way(atoms: &[Atom], command: &Command, rule: Rule, choices: &[u32]) -> Option<Way>
@@ -181,11 +191,11 @@ fn command_way(atoms: &[Atom], command: &Command, rule: Rule, choices: &[u32]) -
         Command::Malloc { .. } => malloc_way(rule, choices),
         Command::Free { .. } => free_way(atoms, rule, choices),
         Command::Input { .. } => input_way(rule, choices),
+        Command::Divide { .. } => divide_way(rule, choices),
         Command::Loop { .. }
         | Command::Call { .. }
         | Command::Return { .. }
-        | Command::Stop { .. }
-        | Command::Divide { .. } => None,
+        | Command::Stop { .. } => None,
     }
 }
 

@@ -28,7 +28,7 @@ use Rattle.px_entry.specs.Standing.{content_value}
 use Rattle.px_entry.proofs.Lists.{Each}
 use Rattle.px_callgraph.specs.States.{number}
 use Rattle.px_callgraph.specs.Operations.{of_words, operation, condition, contrary}
-use Rattle.px_meaning.specs.Operations.{result_of, WordsAre, PointersAre, Holds, Fails}
+use Rattle.px_meaning.specs.Operations.{on_words, quotient, result_of, WordsAre, PointersAre, Holds, Fails}
 use Rattle.px_soundness.proofs.WellFormed.{Good}
 use Rattle.px_soundness.proofs.AtomHeaps.{absent}
 use Rattle.px_soundness.proofs.Contents.{number_good, good_place}
@@ -148,6 +148,29 @@ module _ (vars : List VarInfo) (pure : List Conj) (v : Valuation) (fits : Fits v
   operation_there Add a b r (a_word p is) (a_word q at) e = (_, ap (λ z. operation Add z b) is ∙ ap (operation Add (Word p)) at)
   operation_there Sub a b r (a_word p is) (a_word q at) e = (_, ap (λ z. operation Sub z b) is ∙ ap (operation Sub (Word p)) at)
   operation_there Mul a b r (a_word p is) (a_word q at) e = (_, ap (λ z. operation Mul z b) is ∙ ap (operation Mul (Word p)) at)
+
+  -- ---- divisions
+
+  no_place_divided : (u w : Value) (r : Option Value) → IsPlace u → on_words quotient u w ≡ Some r → ⊥
+  no_place_divided value.Null w r p e = absent e
+  no_place_divided (value.Block n) w r p e = absent e
+  no_place_divided (value.Word z) w r p e = p
+  no_place_divided value.Unwritten w r p e = p
+
+  by_no_place : (z : ℤ) (w : Value) (r : Option Value) → IsPlace w → on_words quotient (value.Word z) w ≡ Some r → ⊥
+  by_no_place z value.Null r p e = absent e
+  by_no_place z (value.Block n) r p e = absent e
+  by_no_place z (value.Word y) r p e = p
+  by_no_place z value.Unwritten r p e = p
+
+  -- what the machine divides are words
+  pub quotient_there : (a b : Content) (r : Option Value) → K a → K b → on_words quotient (V a) (V b) ≡ Some r →
+      (p : Polynomial) × (q : Polynomial) × (a ≡ Word p) × (b ≡ Word q) × (quotient (signed (word_of v p)) (signed (word_of v q)) ≡ r)
+  quotient_there a b r (nothing is) kb e = absent (subst (λ z. on_words quotient (V z) (V b) ≡ Some r) is e)
+  quotient_there a b r (a_place p is pl) kb e = absurd (no_place_divided (place_of v p) (V b) r pl (subst (λ z. on_words quotient (V z) (V b) ≡ Some r) is e))
+  quotient_there a b r (a_word p is) (nothing at) e = absent (subst₂ (λ z y. on_words quotient (V z) (V y) ≡ Some r) is at e)
+  quotient_there a b r (a_word p is) (a_place q at pl) e = absurd (by_no_place _ (place_of v q) r pl (subst₂ (λ z y. on_words quotient (V z) (V y) ≡ Some r) is at e))
+  quotient_there a b r (a_word p is) (a_word q at) e = (p, q, is, at, same_Some _ _ (subst₂ (λ z y. on_words quotient (V z) (V y) ≡ Some r) is at e))
 
   -- ---- comparisons
 

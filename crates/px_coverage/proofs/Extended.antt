@@ -6,8 +6,9 @@ use Rattle.std.proofs.lemmas.Option.{slice_get_within}
 use Rattle.px_terms.specs.Types.{types_of}
 use Rattle.px_terms.specs.Words.{signed}
 use Rattle.px_terms.specs.Variables.{variables_of, place_variables, mentioned}
-use Rattle.px_terms.specs.Valuations.{Valuation}
-use Rattle.px_terms.specs.Conjuncts.{IsTrueUnder}
+use Rattle.px_terms.specs.Polynomials.{Polynomial}
+use Rattle.px_terms.specs.Valuations.{Valuation, IsWord}
+use Rattle.px_terms.specs.Conjuncts.{word_of, HasWords, IsTrueUnder}
 use Rattle.px_terms.specs.declared.types.Value.{Value}
 use Rattle.px_terms.specs.declared.types.Value.TheVariants as value
 use Rattle.px_terms.specs.declared.types.BlockType.{BlockType}
@@ -27,7 +28,7 @@ use Rattle.px_entry.specs.Sorts.{is_variable_with, is_cell}
 use Rattle.px_entry.specs.Contents.{fit_each}
 use Rattle.px_entry.specs.Regular.{fits_state, is_own_cell, state_cells}
 use Rattle.px_entry.specs.Standing.{content_value, contents_value}
-use Rattle.px_entry.proofs.Lists.{Each, each_append, each_all}
+use Rattle.px_entry.proofs.Lists.{Each, each_append, each_all, all_each}
 use Rattle.px_meaning.specs.Heaps.{HeapMap, «Live» as block_live, join}
 use Rattle.px_meaning.specs.Operations.{value_at}
 use Rattle.px_meaning.specs.Triples.{state_of, heap_of}
@@ -83,9 +84,19 @@ module _ (vars : List VarInfo) (pure : List Conj) (v w : Valuation) (agree : (x 
   all_back : (xs : List ℕ) → Each (λ x. x < length vars) xs → All (λ x. v x ≡ w x) xs
   all_back xs h = each_all (λ x. v x ≡ w x) xs (each_weaker (λ x. x < length vars) (λ x. v x ≡ w x) (λ x l. sym (agree x l)) xs h)
 
+  pub word_same : (p : Polynomial) → Good vars pure (Word p) → word_of w p ≡ word_of v p
+  word_same p g = word_agrees w v p (all_agree (variables_of p) (words_below (variables_of p) g.1))
+
+  pub words_same : (p : Polynomial) → Good vars pure (Word p) → HasWords v p → HasWords w p
+  words_same p g h = each_all (λ x. IsWord (w x)) (variables_of p) (go (variables_of p) (words_below (variables_of p) g.1) (all_each (λ x. IsWord (v x)) (variables_of p) h))
+    where
+      go : (xs : List ℕ) → Each (λ x. x < length vars) xs → Each (λ x. IsWord (v x)) xs → Each (λ x. IsWord (w x)) xs
+      go [] l h = tt
+      go (x ∷ xs) l h = (subst IsWord (sym (agree x l.0)) h.0, go xs l.1 h.1)
+
   pub content_agrees : (c : Content) → Good vars pure c → content_value w c ≡ content_value v c
   content_agrees Unwritten g = refl
-  content_agrees (Word p) g = ap (λ n. value.Word (signed n)) (word_agrees w v p (all_agree (variables_of p) (words_below (variables_of p) g.1)))
+  content_agrees (Word p) g = ap (λ n. value.Word (signed n)) (word_same p g)
   content_agrees (Place place.Null) g = refl
   content_agrees (Place (place.Var x)) g = agree x.0 (variable_below _ x.0 g.0)
   content_agrees (Cell x) g = agree x.0 (variable_below _ x.0 g)

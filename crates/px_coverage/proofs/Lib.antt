@@ -11,6 +11,7 @@ pub mod PlainFollows
 pub mod ReadFollows
 pub mod ControlFollows
 pub mod MakeFollows
+pub mod DivisionFollows
 pub mod AccessFollows
 pub mod AccessSteps
 pub mod Steps

@@ -94,27 +94,27 @@ module _ (P : CoreProgram) (j : JobTree) (same_types : j.types ≡ P.types) (e :
 
   -- with a value for one more variable
   module _ (u : Value) where
-    abbrev w : Valuation
+    abbrev pub w : Valuation
     w = extended v x (u ∷ [])
 
-    agree : (y : ℕ) → y < length s.vars → w y ≡ v y
+    pub agree : (y : ℕ) → y < length s.vars → w y ≡ v y
     agree y l = extended_old v x (u ∷ []) y l
 
-    at_new : w x ≡ u
+    pub at_new : w x ≡ u
     at_new = extended_new v x (u ∷ []) x 0 (omega arith)
 
     slots_same : contents_value w s.slots ≡ contents_value v s.slots
     slots_same = contents_agree s.vars s.pure v w agree s.slots well_typed.slots
 
-    blocks_same : heap_of w s.atoms ≡ heap_of v s.atoms
+    pub blocks_same : heap_of w s.atoms ≡ heap_of v s.atoms
     blocks_same = heap_same s.vars s.pure v w agree j.types j.body.parameters s.pre s.atoms well_typed.atoms complete
 
-    stands_one : (one : VarInfo) → HasSort e.before one.sort one.value u → Stands e w rest (s.vars ++ one ∷ []) s.pure s.pre s.atoms
+    pub stands_one : (one : VarInfo) → HasSort e.before one.sort one.value u → Stands e w rest (s.vars ++ one ∷ []) s.pure s.pre s.atoms
     stands_one one h =
         stands_extended s.vars s.pure v w agree j.types j.body.parameters s.pre s.atoms well_typed.atoms complete e rest (one ∷ [])
         (only_new e.before w x one (subst (HasSort e.before one.sort one.value) (sym at_new) h)) s.pure complete.conjuncts stands
 
-    set_new : (to : ℕ) (c : Content) → content_value w c ≡ u → contents_value w (slice_set s.slots to c) ≡ slice_set (contents_value v s.slots) to u
+    pub set_new : (to : ℕ) (c : Content) → content_value w c ≡ u → contents_value w (slice_set s.slots to c) ≡ slice_set (contents_value v s.slots) to u
     set_new to c is = set_is w s.slots to c ∙ ap₂ (λ us z. slice_set us to z) slots_same is
 
   module _ (k : List Item) where

@@ -125,7 +125,7 @@ module _ (P : CoreProgram) (j : JobTree) (e : Execution) (types : SlotTypes) (ou
   Regarded slots k = Regards types outcome s.vars slots k
 
   -- with one conjunct more that is true
-  stands_assumed : (c : Conj) → IsTrueUnder v c → Stands e v rest s.vars (assume s.vars s.pure c) s.pre s.atoms
+  pub stands_assumed : (c : Conj) → IsTrueUnder v c → Stands e v rest s.vars (assume s.vars s.pure c) s.pre s.atoms
   stands_assumed c t = record { sorts = stands.sorts; given = stands.given; true_of = assume_true s.vars s.pure c v stands.true_of t; placed = stands.placed; apart = stands.apart; begins = stands.begins }
 
   module _ (k : List Item) where

@@ -33,6 +33,7 @@ use Rattle.px_coverage.proofs.PlainFollows.{follow_assign, follow_unset}
 use Rattle.px_coverage.proofs.ReadFollows.{follow_read, follow_test}
 use Rattle.px_coverage.proofs.ControlFollows.{follow_choose, follow_loop, follow_leave, follow_break, follow_continue, follow_return}
 use Rattle.px_coverage.proofs.MakeFollows.{follow_input, follow_malloc}
+use Rattle.px_coverage.proofs.DivisionFollows.{follow_divide}
 use Rattle.px_coverage.proofs.AccessSteps.{follow_load, follow_store, follow_free}
 
 module _ (P : CoreProgram) (j : JobTree) (same_types : j.types ≡ P.types) (e : Execution) (typed : IsWellTyped P.types e.before) (types : SlotTypes) (outcome : ℕ → Bool) where
@@ -134,7 +135,11 @@ module _ (P : CoreProgram) (j : JobTree) (same_types : j.types ≡ P.types) (e :
         let (k', is, name, listed, comes) = follow_continue P j e types outcome n (begun s) (well_typed_begun u.well_formed.well_typed) u.well_formed.complete g.valuation g.rest g.stands k u.well_formed.opens u.lowered.well_formed.0 g.regards g.runs in
         done continue k u k' is (λ t. refl) name listed comes
     command_goes (stop number site) k own u = done (stop number site) k u k refl (λ t. refl) way.Drop (inl refl) tt
-    command_goes (divide to a b site) k own u = absurd u.lowered.known.0
+    command_goes (divide to a b site) k own u =
+        let g = u.going in
+        let r = u.well_formed.keeps.0.0 in
+        let (name, listed, comes) = follow_divide P j same_types e types outcome n (begun s) (well_typed_begun u.well_formed.well_typed) u.well_formed.complete g.valuation g.rest g.stands k to a b site r.0 r.1 u.lowered.typed.0.0 u.lowered.well_formed.0.0.1 g.regards g.runs in
+        done (divide to a b site) k u k refl (λ t. refl) name listed comes
 
     -- ---- ends of bodies and of the parts of loops
 

@@ -1,10 +1,10 @@
 -- What the tables of small procedures cover.
-use Rattle.std.proofs.Common.{◌≡◌, ◌≢◌, ℕ, zero, suc, ◌≤◌, Some, None, cond, List, [], ◌∷◌, ◌++◌, length, slice_get, refl, sym, ap, ◌∙◌, subst, inl, inr, arith}
+use Rattle.std.proofs.Common.{◌≡◌, ◌≢◌, ℕ, zero, suc, ◌≤◌, Some, None, cond, List, [], ◌∷◌, ◌++◌, length, pos, slice_get, refl, sym, ap, ◌∙◌, subst, inl, inr, arith}
 use Rattle.std.proofs.lemmas.List.Elements.{All-nil}
 use Rattle.std.proofs.lemmas.Option.{same_Some}
 use Rattle.px_base.specs.declared.trace.Mark.{Mark}
 use Rattle.px_base.specs.declared.trace.MarkKind.TheVariants as mark
-use Rattle.px_base.specs.declared.trace.Kind.TheVariants.{DoubleFree}
+use Rattle.px_base.specs.declared.trace.Kind.TheVariants.{DoubleFree, DivisionByZero}
 use Rattle.px_terms.specs.Valuations.{Valuation}
 use Rattle.px_terms.specs.Conjuncts.{IsTrueUnder}
 use Rattle.px_terms.specs.declared.types.Value.{Value}
@@ -17,9 +17,9 @@ use Rattle.px_meaning.specs.Steps.{freed_block}
 use Rattle.px_meaning.specs.Calls.{error, Ending, Returned, Failed}
 use Rattle.px_meaning.specs.CoreCalls.{after, CoreCallsWithin, CallsWithin}
 use Rattle.px_meaning.specs.Events.{mark_of}
-use Rattle.px_meaning.specs.Triples.{values_from}
+use Rattle.px_meaning.specs.Triples.{values_from, ending_of}
 use Rattle.px_soundness.proofs.AtomHeaps.{absent}
-use Rattle.px_soundness.specs.WorkedTriples.{freed_twice}
+use Rattle.px_soundness.specs.WorkedTriples.{freed_twice, ten_over, by_other}
 use Rattle.px_coverage.specs.Covered.{Execution, IsOf, IsCovered}
 use Rattle.px_coverage.specs.WorkedCovers.{returns_at_once, program_of, CoversJob, a_table, nothing, of_null, with_its_caller, CoversCaller, called, dropped_call, WorkedCovers}
 use Rattle.px_meaning.proofs.Joins.{same_or_other}
@@ -126,6 +126,25 @@ without_freed covers = by (covers (value.Block 1 ∷ []) a_freed_block (record {
     by (inl (suc zero, x, l, is, h)) = none x h (subst (λ (y : Entry). y.trace ≢ one_mark) is (λ same. longer (ap length same)))
     by (inl (suc (suc k), x, l, is, h)) = let n : ⊥ = omega arith in n
 
+-- ---- a division by 0
+
+abbrev divided_by_zero : Ending
+divided_by_zero = Failed (error DivisionByZero) (site 23)
+
+zero_fails : CoreCallsWithin 3 (program_of ten_over) 0 (value.Word (pos 0) ∷ []) no_blocks [] divided_by_zero no_blocks
+zero_fails = ((3, (refl, refl, refl)), omega arith)
+
+without_zero : ¬ CoversJob ten_over (a_table (by_other ∷ []) [])
+without_zero covers = by (covers (value.Word (pos 0) ∷ []) no_blocks (record { well_typed = no_types; written = (omega arith, tt) }) [] divided_by_zero no_blocks zero_fails)
+  where
+    returns : (u : Value) → divided_by_zero ≡ Returned u → ⊥
+    returns u same = cc
+
+    by : IsCovered (record { arguments = value.Word (pos 0) ∷ []; before = no_blocks; trace = []; ending = divided_by_zero; after = no_blocks }) (a_table (by_other ∷ []) []) → ⊥
+    by (inr (k, x, l, is, h)) = let n : ⊥ = omega arith in n
+    by (inl (zero, x, l, is, h)) = returns _ (h.ending ∙ ap (λ (y : Entry). ending_of h.valuation y.exit y.result) (sym is))
+    by (inl (suc k, x, l, is, h)) = let n : ⊥ = omega arith in n
+
 -- ---- a call
 
 abbrev both_marks : List Mark
@@ -185,4 +204,4 @@ handed_on : CoversCaller (a_table [] (dropped_call ∷ []))
 handed_on arguments before state trace ending end ((n, runs), few) = inr (0, dropped_call, omega arith, refl, (mark_at mark.Leave 14 ∷ [], (caller_runs n arguments before trace ending end runs).0))
 
 pub worked : WorkedCovers
-worked = record { returned = returned; empty = empty; spent = spent; without_freed = without_freed; through_call = through_call; without_marks = without_marks; handed_on = handed_on }
+worked = record { returned = returned; empty = empty; spent = spent; without_freed = without_freed; without_zero = without_zero; through_call = through_call; without_marks = without_marks; handed_on = handed_on }

@@ -1,7 +1,7 @@
--- The blocks that a body frees are of types of the program. A body that divides isn't covered yet.
+-- The blocks that a body frees are of types of the program.
 use Rattle.std.specs.Prelude.{List, IsSome, slice_get, ⊤}
 use Rattle.px_terms.specs.declared.types.BlockType.{BlockType}
-use Rattle.px_core.specs.CommandTree.{CommandTree, CommandTrees, choose, loop, free, divide, no_commands, a_command}
+use Rattle.px_core.specs.CommandTree.{CommandTree, CommandTrees, choose, loop, free, no_commands, a_command}
 
 -- each `free` in the command names one of these block types
 abbrev mutual
@@ -9,7 +9,6 @@ abbrev mutual
   FreesKnown types (choose slot first second) = FreeKnown types first × FreeKnown types second
   FreesKnown types (loop site head body step) = FreeKnown types head × FreeKnown types body × FreeKnown types step
   FreesKnown types (free at block site) = IsSome (slice_get types block.0)
-  FreesKnown types (divide to a b site) = ⊥
   FreesKnown types _ = ⊤
 
   pub FreeKnown : List BlockType → CommandTrees → Type 0

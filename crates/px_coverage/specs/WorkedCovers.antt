@@ -14,7 +14,7 @@ use Rattle.px_entry.specs.declared.tables.Cause.TheVariants.{Nodes, Dropped}
 use Rattle.px_callgraph.specs.JobTree.{JobTree}
 use Rattle.px_callgraph.specs.WorkedPaths.{site, mark_at, job_of, two_frees, p_is_null, nulls}
 use Rattle.px_meaning.specs.CoreCalls.{CoreProgram, CoreCallsWithin}
-use Rattle.px_soundness.specs.WorkedTriples.{an_entry, freed_twice}
+use Rattle.px_soundness.specs.WorkedTriples.{an_entry, freed_twice, ten_over, by_other}
 use Rattle.px_coverage.specs.Covered.{Covers}
 
 -- `void f(void){int x = 1; return;}`
@@ -72,6 +72,8 @@ pub record WorkedCovers : Type 0 where
   pub spent : CoversJob two_frees (a_table [] (record { trace = []; cause = Nodes 1 } ∷ []))
   -- without the row of a block that was freed before, an execution that meets one isn't covered
   pub without_freed : ¬ CoversJob two_frees (a_table (of_null ∷ freed_twice ∷ []) [])
+  -- without the row of 0, an execution that divides by 0 isn't covered
+  pub without_zero : ¬ CoversJob ten_over (a_table (by_other ∷ []) [])
   -- the caller's only execution has the marks of the call
   pub through_call : CoversCaller (a_table (called ∷ []) [])
   -- so it isn't that of the callee's entry

@@ -27,3 +27,5 @@ rule_of_number rule.FreeNull = refl
 rule_of_number rule.Input = refl
 rule_of_number rule.Call = refl
 rule_of_number rule.End = refl
+rule_of_number rule.Divide = refl
+rule_of_number rule.DivideZero = refl

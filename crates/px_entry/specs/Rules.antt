@@ -26,12 +26,14 @@ rule_number rule.FreeNull = 17
 rule_number rule.Input = 18
 rule_number rule.Call = 19
 rule_number rule.End = 20
+rule_number rule.Divide = 21
+rule_number rule.DivideZero = 22
 
 -- all rules, in the order of their numbers
 unfoldable pub all_rules : List Rule
 all_rules =
     rule.Assign ∷ rule.ReadWritten ∷ rule.ReadUnwritten ∷ rule.TestTrue ∷ rule.TestFalse ∷ rule.Unroll ∷ rule.LeaveLoop ∷ rule.Load ∷ rule.Store ∷ rule.NullAccess
-    ∷ rule.FreedAccess ∷ rule.MissingLive ∷ rule.MissingFreed ∷ rule.Alloc ∷ rule.AllocNull ∷ rule.Free ∷ rule.FreeTwice ∷ rule.FreeNull ∷ rule.Input ∷ rule.Call ∷ rule.End ∷ []
+    ∷ rule.FreedAccess ∷ rule.MissingLive ∷ rule.MissingFreed ∷ rule.Alloc ∷ rule.AllocNull ∷ rule.Free ∷ rule.FreeTwice ∷ rule.FreeNull ∷ rule.Input ∷ rule.Call ∷ rule.End ∷ rule.Divide ∷ rule.DivideZero ∷ []
 
 -- the rule that has a number, if one has it
 unfoldable pub rule_of : ℕ → Option Rule

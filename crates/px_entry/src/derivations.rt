@@ -43,6 +43,10 @@ pub enum Rule {
     Call,
     /// The path has ended in the entry.
     End,
+    /// A division by what isn't 0.
+    Divide,
+    /// A division by 0.
+    DivideZero,
 }
 
 /// A step of a derivation.

@@ -38,6 +38,8 @@ pub fn rule_of(number: u8) -> Option<Rule>
         18 => Some(Rule::Input),
         19 => Some(Rule::Call),
         20 => Some(Rule::End),
+        21 => Some(Rule::Divide),
+        22 => Some(Rule::DivideZero),
         _ => None,
     }
 }

@@ -180,6 +180,8 @@ shut_elsewhere j w k way.MissingFreed t h l = absurd l
 shut_elsewhere j w k way.Missing t h l = absurd l
 shut_elsewhere j w k (way.Entry n) t h l = absurd l
 shut_elsewhere j w k way.Drop t h l = absurd l
+shut_elsewhere j w k way.ByZero t h l = absurd l
+shut_elsewhere j w k way.Divided t h l = absurd l
 
 pub known_shut : (j : JobTree) (w : Walk) (o : Option Known) (name : Way) → MayBeThinned j w.state → IfSome o (IsKnown w) → IsSomeAnd o (λ k. LeadsElsewhere w.state k name) → IsShut j w name
 known_shut j w None name t h l = absurd l

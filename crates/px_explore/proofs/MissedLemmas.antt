@@ -155,6 +155,8 @@ access_met types block a h q s k x (way.Atom n) cells e r = cc
 access_met types block a h q s k x way.Missing cells e r = cc
 access_met types block a h q s k x (way.Entry n) cells e r = cc
 access_met types block a h q s k x way.Drop cells e r = cc
+access_met types block a h q s k x way.ByZero cells e r = cc
+access_met types block a h q s k x way.Divided cells e r = cc
 
 through_met : (types : List BlockType) (block : TypeId) (a : spec.Access) → UsesBlocks a → KeepsOthers a → (s : State) (k : List Item) (o : Option Place) (at' : Operand) (name : Way) (m : Missed) →
     o ≡ accessed s.vars block (operand_content s at') → IsMissed types s block at' name m →

@@ -159,6 +159,8 @@ cell_said s k slot site x i way.MissingFreed c e f n = cc
 cell_said s k slot site x i way.Missing c e f n = cc
 cell_said s k slot site x i (way.Entry m) c e f n = cc
 cell_said s k slot site x i way.Drop c e f n = cc
+cell_said s k slot site x i way.ByZero c e f n = cc
+cell_said s k slot site x i way.Divided c e f n = cc
 
 read_says : (j : JobTree) (s : State) (k : List Item) (slot : ℕ) (site : Site) (name : Way) (c : Conj) → IsRead s slot name c → Says j (at (Act (read slot site) ∷ k) s) name c
 unfolding act
@@ -213,6 +215,8 @@ test_says j s k to how a b site way.MissingFreed c t = let e = t.side_is in cc
 test_says j s k to how a b site way.Missing c t = let e = t.side_is in cc
 test_says j s k to how a b site (way.Entry n) c t = let e = t.side_is in cc
 test_says j s k to how a b site way.Drop c t = let e = t.side_is in cc
+test_says j s k to how a b site way.ByZero c t = let e = t.side_is in cc
+test_says j s k to how a b site way.Divided c t = let e = t.side_is in cc
 
 -- ---- accesses
 
@@ -299,6 +303,8 @@ access_said types block a h s k p q way.MissingFreed c e f n = cc
 access_said types block a h s k p q way.Missing c e f n = cc
 access_said types block a h s k p q (way.Entry i) c e f n = cc
 access_said types block a h s k p q way.Drop c e f n = cc
+access_said types block a h s k p q way.ByZero c e f n = cc
+access_said types block a h s k p q way.Divided c e f n = cc
 
 through_said : (types : List BlockType) (block : TypeId) (a : spec.Access) → UsesBlocks a → (s : State) (k : List Item) (o : Option Place) (p q : Place) (name : Way) (c : Conj) →
     o ≡ Some p → joined_place s name ≡ Some q → c ≡ SamePlace p q → IsNew s c →

@@ -1,5 +1,5 @@
 -- A way that is listed outside a call is taken by its steps.
-use Rattle.std.proofs.Common.{◌≡◌, ℕ, suc, ◌+◌, List, [], ◌∷◌, ◌++◌, length, Bool, true, false, nat_eq, Option, Some, None, slice_get, refl, sym, ◌∙◌, ap, subst, arith, append_assoc, length-append}
+use Rattle.std.proofs.Common.{◌≡◌, ℕ, suc, ◌+◌, List, [], ◌∷◌, ◌++◌, length, Bool, true, false, nat_eq, Option, Some, None, slice_get, refl, sym, ◌∙◌, ap, subst, arith, append_assoc, length-append, ◌||◌}
 use Rattle.std.specs.Prelude.{Contains, ◌&&◌}
 use Rattle.std.specs.List.{list_any}
 use Rattle.std.proofs.lemmas.Bool.{or_right, or_left}
@@ -15,6 +15,8 @@ use Rattle.px_terms.specs.declared.conjuncts.Conj.TheVariants.{SamePlace}
 use Rattle.px_core.specs.declared.command.Operand.{Operand}
 use Rattle.px_core.specs.CommandTree.{CommandTree, assign, unset, read, test, choose, loop, leave, load, store, malloc, free, input, call, return, break, continue, stop, divide}
 use Rattle.px_core.specs.Control.{Item, Act, AfterHead, AfterBody, AfterStep, acts, one_turn_more}
+use Rattle.px_terms.specs.declared.conjuncts.Conj.TheVariants as conjunct
+use Rattle.px_entry.specs.Sorts.{is_long, is_int_polynomial}
 use Rattle.px_entry.specs.declared.atoms.Atom.{Atom}
 use Rattle.px_entry.specs.declared.derivations.Rule.{Rule}
 use Rattle.px_entry.specs.declared.derivations.Rule.TheVariants as rule
@@ -32,7 +34,7 @@ use Rattle.px_callgraph.specs.JobTree.{JobTree}
 use Rattle.px_callgraph.specs.Accesses.{listed_if, atom_ways, missing_ways, access_ways, accessed}
 use Rattle.px_callgraph.specs.States.{Outcome, goes, ends, past, drops, Done, operand_content, content_at}
 use Rattle.px_callgraph.specs.Operations.{condition, contrary}
-use Rattle.px_callgraph.specs.Commands.{read_ways, open_if, malloc_ways, through_place, pointer_ways, command_ways, command_done, iteration}
+use Rattle.px_callgraph.specs.Commands.{read_ways, open_if, malloc_ways, divide_ways, through_place, pointer_ways, command_ways, command_done, iteration}
 use Rattle.px_callgraph.specs.declared.outcomes.StepOutcome.TheVariants.{Next, Ends, Cut, Past}
 use Rattle.px_callgraph.specs.Alternatives.{Walk, Leads, passes, dropped, limited, within_limits, leads, at, items_after, item_ways, after_command, item_act, ways, act, start}
 use Rattle.px_callgraph.specs.Derivations.{Course, fails_at, same_way, still_there, take_listed, alone, atom_way, access_way, command_way, item_step, is_silent, live_rule, freed_rule, use_rule, onward, fails_next, by_use, by_item, course}
@@ -198,6 +200,19 @@ module _ (j : JobTree) (s : State) (k : List Item) where
   mallocs to block site None = tt
   mallocs to block site (Some b) = ((refl, refl), ((refl, refl), tt))
 
+  divisions : (to : ℕ) (a b : Operand) (site : _) (x y : Content) → Each (C (divide to a b site)) (divide_ways s.vars x y)
+  divisions to a b site (Word p) (Word q) =
+      let by_zero = is_open s.vars (conjunct.Equal q) in
+      let by_other = is_open s.vars (conjunct.Unequal q) && (is_long p || is_int_polynomial s.vars p) in
+      each_append (C (divide to a b site)) (listed_if by_zero way.ByZero) (listed_if by_other way.Divided)
+      (listed (C (divide to a b site)) by_zero way.ByZero (refl, refl)) (listed (C (divide to a b site)) by_other way.Divided (refl, refl))
+  divisions to a b site (Word p) Unwritten = tt
+  divisions to a b site (Word p) (Place z) = tt
+  divisions to a b site (Word p) (Cell z) = tt
+  divisions to a b site Unwritten y = tt
+  divisions to a b site (Place z) y = tt
+  divisions to a b site (Cell z) y = tt
+
   command_named : (c : CommandTree) → is_call_command c ≡ false → is_stop_command c ≡ false → Each (C c) (command_ways j s c)
   command_named (assign to op a b) e known = listed (C (assign to op a b)) _ way.On (refl, refl)
   command_named (unset to) e known = ((refl, refl), tt)
@@ -221,7 +236,7 @@ module _ (j : JobTree) (s : State) (k : List Item) where
   command_named break e known = listed (C break) _ way.On (refl, refl)
   command_named continue e known = listed (C continue) _ way.On (refl, refl)
   command_named (stop number site) e known = cc
-  command_named (divide to a b site) e known = tt
+  command_named (divide to a b site) e known = divisions to a b site (operand_content s a) (operand_content s b)
 
 -- ---- the way of a step
 
@@ -296,6 +311,8 @@ same_itself way.MissingFreed = refl
 same_itself way.Missing = refl
 same_itself (way.Entry n) = number_itself n
 same_itself way.Drop = refl
+same_itself way.ByZero = refl
+same_itself way.Divided = refl
 
 each_found : (xs : List Way) → Each (λ x. list_any (same_way x) xs ≡ true) xs
 each_found [] = tt
@@ -339,6 +356,8 @@ use_taken go i n k way.MissingFreed rest a = used_by go i n (freed_rule k) rest 
 use_taken go i n k way.Missing rest a = none_used go i rest a
 use_taken go i n k (way.Entry m) rest a = none_used go i rest a
 use_taken go i n k way.Drop rest a = none_used go i rest a
+use_taken go i n k way.ByZero rest a = none_used go i rest a
+use_taken go i n k way.Divided rest a = none_used go i rest a
 
 module _ (j : JobTree) (s : State) (k : List Item) (name : Way) (a : Leads) (plain : is_call k ≡ false) (t : take_listed j (at k s) name ≡ Some a) where
   by_taken : (go : ℕ → List Step → Leads → Course) (i : ℕ) (rest : List Step) (b : Bool) →

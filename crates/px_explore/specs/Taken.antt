@@ -1,6 +1,6 @@
 -- The steps by which a way is taken.
 use Rattle.std.specs.Prelude.{ℕ, Bool, true, false, List, [], ◌∷◌, ◌++◌, length, Option, Some, None, slice_get}
-use Rattle.px_core.specs.CommandTree.{CommandTree, read, test, leave, load, store, malloc, free, input, call}
+use Rattle.px_core.specs.CommandTree.{CommandTree, read, test, leave, load, store, malloc, free, input, call, divide}
 use Rattle.px_core.specs.Control.{Item, Act, AfterHead}
 use Rattle.px_entry.specs.declared.atoms.Atom.{Atom}
 use Rattle.px_entry.specs.declared.derivations.Rule.{Rule}
@@ -48,6 +48,10 @@ abbrev pub malloc_rule : Way → Rule
 malloc_rule way.Made = rule.Alloc
 malloc_rule _ = rule.AllocNull
 
+abbrev pub divide_rule : Way → Rule
+divide_rule way.ByZero = rule.DivideZero
+divide_rule _ = rule.Divide
+
 -- the rule by which a command's way is taken
 abbrev pub command_rule : CommandTree → Bool → Way → Rule
 command_rule (read slot site) to_freed name = read_rule name
@@ -59,6 +63,7 @@ command_rule (malloc to block site) to_freed name = malloc_rule name
 command_rule (free at block site) to_freed name = pointer_rule rule.Free rule.FreeTwice rule.FreeNull to_freed name
 command_rule (input to site) to_freed name = rule.Input
 command_rule (call to proc arguments site) to_freed name = rule.Call
+command_rule (divide to a b site) to_freed name = divide_rule name
 command_rule _ to_freed name = rule.Assign
 
 abbrev pub item_rule : List Item → Bool → Way → Rule

@@ -66,6 +66,15 @@ fn malloc_rule(way: Way) -> Rule
     }
 }
 
+fn divide_rule(way: Way) -> Rule
+    ensures { result ≡ spec.divide_rule way }
+{
+    match way {
+        Way::ByZero => Rule::DivideZero,
+        _ => Rule::Divide,
+    }
+}
+
 // The rule by which a command's way is taken.
 #[tactic(auto, using(px_core::proofs::CommandEquations::trees))]
 fn command_rule(command: &Command, is_freed: bool, way: Way) -> Rule
@@ -95,6 +104,7 @@ fn command_rule(command: &Command, is_freed: bool, way: Way) -> Rule
         }
         Command::Input { .. } => Rule::Input,
         Command::Call { .. } => Rule::Call,
+        Command::Divide { .. } => divide_rule(way),
         Command::Assign { .. }
         | Command::Unset { .. }
         | Command::If { .. }
@@ -102,8 +112,7 @@ fn command_rule(command: &Command, is_freed: bool, way: Way) -> Rule
         | Command::Return { .. }
         | Command::Break
         | Command::Continue
-        | Command::Stop { .. }
-        | Command::Divide { .. } => Rule::Assign,
+        | Command::Stop { .. } => Rule::Assign,
     }
 }
 

@@ -60,8 +60,11 @@ fn is_of_cells(conjunct: &Conj) -> bool
     ensures { result ≡ spec.is_of_cells conjunct.now }
 {
     match conjunct {
-        Conj::Equal(_) | Conj::Unequal(_) | Conj::Less(_, _) | Conj::AtMost(_, _) => false,
-        Conj::Quotient(_, _, _) => false,
+        Conj::Equal(_)
+        | Conj::Unequal(_)
+        | Conj::Less(_, _)
+        | Conj::AtMost(_, _)
+        | Conj::Quotient(_, _, _) => false,
         Conj::SamePlace(_, _) | Conj::OtherPlace(_, _) | Conj::Written(_) | Conj::Unwritten(_) => {
             true
         }

@@ -226,6 +226,8 @@ fn rule_name(rule: Rule) -> &'static [u8] {
         Rule::Input => b"Input",
         Rule::Call => b"Call",
         Rule::End => b"End",
+        Rule::Divide => b"Divide",
+        Rule::DivideZero => b"DivideZero",
     }
 }
 

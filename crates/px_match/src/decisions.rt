@@ -1,6 +1,6 @@
 ghost use Rattle.std.specs.Prelude.{◌≡◌, ◌&&◌, ◌||◌, not, false, [], option_map};
 ghost use Rattle.std.specs.List.{list_all, list_any};
-ghost use Rattle.px_terms.specs.declared.conjuncts.Conj.TheVariants.{Equal};
+ghost use Rattle.px_terms.specs.declared.conjuncts.Conj.TheVariants.{Equal, Unequal};
 ghost use Rattle.px_terms.specs.Monomials.{term_of};
 ghost use Rattle.px_entry.specs.Sorts as sorts;
 ghost use Rattle.px_entry.specs.Equality as equality;
@@ -69,8 +69,8 @@ pub fn is_well_sorted(vars: &[VarInfo], c: &Conj) -> bool
     }
 }
 
-// The word of a polynomial without variables.
-fn word_of(p: &Poly) -> Option<u32>
+/// The word of a polynomial without variables. Takes no memory.
+pub fn word_of(p: &Poly) -> Option<u32>
     ensures { result ≡ spec.word_of p.now }
 {
     if p.monomials().is_empty() {
@@ -151,8 +151,8 @@ fn decided(vars: &[VarInfo], c: &Conj) -> Option<bool>
     }
 }
 
-// A polynomial that is kept isn't too long.
-pub(crate) fn keep_short(p: &Poly)
+/// A polynomial that is kept isn't too long. Takes no memory.
+pub fn keep_short(p: &Poly)
     ensures { sorts.is_long p.now ≡ false }
 {
     let _constant = p.constant();
@@ -178,6 +178,29 @@ pub fn is_open(vars: &[VarInfo], c: &Conj) -> bool
 {
     keep_conjunct_short(c);
     is_well_sorted(vars, c) && decided(vars, c) != Some(false)
+}
+
+// Whether a polynomial isn't 0, if it has no variables.
+fn is_other(p: &Poly) -> Option<bool>
+    ensures { result ≡ spec.decided [] (Unequal p.now) }
+{
+    negated(is_zero(p))
+}
+
+/// Whether that a polynomial is 0 may be assumed. Takes no memory.
+pub fn may_be_zero(vars: &[VarInfo], p: &Poly) -> bool
+    ensures { result ≡ spec.is_open vars.now (Equal p.now) }
+{
+    keep_short(p);
+    is_int_polynomial(vars, p) && is_zero(p) != Some(false)
+}
+
+/// Whether that a polynomial isn't 0 may be assumed. Takes no memory.
+pub fn may_be_other(vars: &[VarInfo], p: &Poly) -> bool
+    ensures { result ≡ spec.is_open vars.now (Unequal p.now) }
+{
+    keep_short(p);
+    is_int_polynomial(vars, p) && is_other(p) != Some(false)
 }
 
 // Whether both are the same conjunct.

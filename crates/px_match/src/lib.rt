@@ -20,8 +20,11 @@ mod words;
 pub use claims::{Claimed, claim_through, is_claim_open};
 pub use conditions::{Compared, condition, contrary};
 pub use contents::{content_through, place_through, state_through};
-pub use decisions::{is_int_polynomial, is_open, is_well_sorted, stands};
-pub use matching::cases;
+pub use decisions::{
+    is_int_polynomial, is_open, is_well_sorted, keep_short, may_be_other, may_be_zero, stands,
+    word_of,
+};
+pub use matching::{cases, is_match};
 pub use operations::{Operated, operand_content, operation};
 pub use path_limits::{Growth, NOTHING, cut, limit_of_long, limit_passed};
 pub use substitution::{count_new, put_cells, put_from, put_new, put_new_variables};

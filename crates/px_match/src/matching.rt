@@ -51,8 +51,8 @@ fn unless(first: bool, second: bool) -> bool
     !first && second
 }
 
-// Whether an atom is of the type and state that are required, and may be at the place.
-fn is_match(vars: &[VarInfo], place: Place, block: TypeId, freed: bool, atom: &Atom) -> bool
+/// Whether an atom is of the type and state that are required, and may be at the place.
+pub fn is_match(vars: &[VarInfo], place: Place, block: TypeId, freed: bool, atom: &Atom) -> bool
     ensures { result ≡ spec.is_match vars.now place block freed atom.now }
 {
     atom.block.0 == block.0

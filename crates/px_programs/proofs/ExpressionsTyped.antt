@@ -1,5 +1,5 @@
 -- An expression keeps the typing rules, where what it mentions is known.
-use Rattle.std.proofs.Common.{ℕ, List, [], ◌∷◌, bytes_eq, is_none, length, Option, Some, None, refl, ◌++◌}
+use Rattle.std.proofs.Common.{ℕ, List, [], ◌∷◌, bytes_eq, is_none, length, Option, Some, None, refl}
 use Rattle.std.specs.List.{AllByRecursion}
 use Rattle.px_terms.specs.declared.types.ValueType.{ValueType}
 use Rattle.px_syntax.specs.declared.type_name.TypeName.{TypeName}
@@ -12,7 +12,7 @@ use Rattle.px_bodies.specs.Environment.{Environment, value_type}
 use Rattle.px_bodies.specs.Typed.{Typed, as_argument}
 use Rattle.px_bodies.specs.Locals.{Local, named, if_named}
 use Rattle.px_bodies.specs.Expressions.{site_of, after_first, none_is_missing, parameters_of, call_type, typed, typed_arguments, typed_call, typed_as, typed_condition}
-use Rattle.px_typing.specs.Mentions.{Mention, of_expression, of_expressions, of_option, of_type, of_size, of_operator}
+use Rattle.px_typing.specs.Mentions.{Mention, of_expression, of_expressions, of_option, of_type, of_size}
 use Rattle.px_meaning.specs.TypedProgram.{TypedProgram}
 use Rattle.px_meaning.specs.TreeTypes.{LocalTypes, AreOf}
 use Rattle.px_programs.specs.Numbers.{AreListed}
@@ -56,10 +56,9 @@ module _ (env : Environment) (P : TypedProgram) (names : ℕ) (fields : KnownFie
       typed_good (E.variable name site) k = on_given (IsLocal env P.types locals) Good (named name visible) _ (named_local name visible fit) (λ l h. (h.0, (h.1, tt)))
       typed_good (E.unary operator site e) k = on_given Good Good (typed env visible e) _ (typed_good e k) (unary_good env P names locals operator site (site_of e))
       typed_good (E.binary operator site a b) k =
-          let rest = all_second (KnownMention env P names) (of_expression a) (of_expression b ++ of_operator operator) k in
-          on_given Good Good (typed env visible a) _ (typed_good a (all_first (KnownMention env P names) (of_expression a) (of_expression b ++ of_operator operator) k)) (λ x hx.
-          on_given Good Good (typed env visible b) _ (typed_good b (all_first (KnownMention env P names) (of_expression b) (of_operator operator) rest)) (λ y hy.
-          binary_good env P names locals x y hx hy operator (all_second (KnownMention env P names) (of_expression b) (of_operator operator) rest) site (site_of a) (site_of b)))
+          on_given Good Good (typed env visible a) _ (typed_good a (all_first (KnownMention env P names) (of_expression a) (of_expression b) k)) (λ x hx.
+          on_given Good Good (typed env visible b) _ (typed_good b (all_second (KnownMention env P names) (of_expression a) (of_expression b) k)) (λ y hy.
+          binary_good env P names locals x y hx hy operator site (site_of a) (site_of b)))
       typed_good (E.member e field site) k = on_given Good Good (typed env visible e) _ (typed_good e k) (arrow_good env P names locals fields field site)
       typed_good (E.call f site arguments) k =
           on_given_when Good (is_none (named f visible)) (parameters_of (env.signature f)) _

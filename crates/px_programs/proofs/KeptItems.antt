@@ -20,7 +20,6 @@ use Rattle.px_typing.specs.Declarations.{first_of, defined_by}
 use Rattle.px_typing.specs.Keeping.{marked_after, is_duplicate, first_word, function_word, word_of, Judged, judged, kept_tree, kept_trees}
 use Rattle.px_typing.specs.Programs.{kept_name, procedure_of, environment_in}
 use Rattle.px_typing.proofs.ReadingLemmas.{none_is, first_of-append, first_of-more}
-use Rattle.px_typing.specs.Mentions.{divides}
 use Rattle.px_programs.proofs.Lists.{all_change}
 use Rattle.px_terms.proofs.Recursion.{all_push}
 
@@ -31,17 +30,16 @@ bytes_same xs = (bytes_eq-Decides xs xs).1 refl
 
 -- ---- words
 
-no_test : (a b c d : Bool) (w1 w2 w3 w4 : List ℕ) → first_word ((a, w1) ∷ (b, w2) ∷ (c, w3) ∷ (d, w4) ∷ []) ≡ None → (a ≡ false) × (b ≡ false) × (c ≡ false) × (d ≡ false)
-no_test true b c d w1 w2 w3 w4 h = absurd cc
-no_test false true c d w1 w2 w3 w4 h = absurd cc
-no_test false false true d w1 w2 w3 w4 h = absurd cc
-no_test false false false true w1 w2 w3 w4 h = absurd cc
-no_test false false false false w1 w2 w3 w4 h = (refl, refl, refl, refl)
+no_test : (a b c : Bool) (w1 w2 w3 : List ℕ) → first_word ((a, w1) ∷ (b, w2) ∷ (c, w3) ∷ []) ≡ None → (a ≡ false) × (b ≡ false) × (c ≡ false)
+no_test true b c w1 w2 w3 h = absurd cc
+no_test false true c w1 w2 w3 h = absurd cc
+no_test false false true w1 w2 w3 h = absurd cc
+no_test false false false w1 w2 w3 h = (refl, refl, refl)
 
 -- what is so of a function without a word
-pub function_rules : (duplicate : Bool) (ps : List Parameter) (typed : Option ProcedureTree) (divided : Bool) → function_word duplicate ps typed divided ≡ None
-    → (duplicate ≡ false) × (nat_lt 16 (length ps) ≡ false) × (is_none typed ≡ false) × (divided ≡ false)
-function_rules duplicate ps typed divided h = no_test duplicate (nat_lt 16 (length ps)) (is_none typed) divided (codes "duplicate") (codes "parameters") (codes "type") (codes "later") h
+pub function_rules : (duplicate : Bool) (ps : List Parameter) (typed : Option ProcedureTree) → function_word duplicate ps typed ≡ None
+    → (duplicate ≡ false) × (nat_lt 16 (length ps) ≡ false) × (is_none typed ≡ false)
+function_rules duplicate ps typed h = no_test duplicate (nat_lt 16 (length ps)) (is_none typed) (codes "duplicate") (codes "parameters") (codes "type") h
 
 without_name : (b : Bool) → (let o : Option (List ℕ) = if b then None else None in o) ≡ None
 without_name true = refl
@@ -145,7 +143,7 @@ module _ (items : List ParsedTree) where
           → slice_get (filter_map (procedure_of numbered) (kept_trees (record { item = item; word = w } ∷ js))) n ≡ Some p → IsNumbered numbered (record { item = item; word = w } ∷ js) n p
       function_at (Some w) is n p h = skipped (record { item = item; word = Some w }) js n p refl refl (on n p) h
       function_at None is n p h =
-          let r = function_rules (is_duplicate before item) ps bare_typed (divides body) is in
+          let r = function_rules (is_duplicate before item) ps bare_typed is in
           kept_at (typed_function numbered (proc_id numbered name) site result ps body) refl r.0 r.1 r.2 n p h
 
     -- each kept procedure is that of the kept function with its number
@@ -199,7 +197,7 @@ module _ (items : List ParsedTree) where
       function_many : (w : Option (List ℕ)) → word_of bare (is_duplicate before the_item) the_item ≡ w → AreAsMany (record { item = the_item; word = w } ∷ js)
       function_many (Some w) is = skipped_many (record { item = the_item; word = Some w }) js refl refl h
       function_many None is =
-          one_kept (typed_function numbered (proc_id numbered name) site result ps body) refl (function_rules (is_duplicate before the_item) ps the_typed (divides body) is).2
+          one_kept (typed_function numbered (proc_id numbered name) site result ps body) refl (function_rules (is_duplicate before the_item) ps the_typed is).2
 
     pub as_many : (before xs : List ParsedTree) → AreAsMany (judged_after before xs)
     as_many before [] = refl
@@ -262,7 +260,7 @@ module _ (items : List ParsedTree) where
       skip_name before (parsed (function site result name ps body)) (record { item = parsed (function site result name ps body); word = Some w }) js refl on
   function_name_new before js site result name ps body None is on = λ seen d.
       let x = parsed (function site result name ps body) in
-      let duplicate = (function_rules (is_duplicate before x) ps (typed_function bare (record { 0 = 0 }) site result ps body) (divides body) is).0 in
+      let duplicate = (function_rules (is_duplicate before x) ps (typed_function bare (record { 0 = 0 }) site result ps body) is).0 in
       let here : IsDefinedIn (before ++ x ∷ []) name =
       ap is_some (first_of-more (defined_by name) before x) ∙ or_defined (first_of (defined_by name) before) (bytes_eq name name) (signature_of result ps) (bytes_same name) in
       ap (λ b. insert_all bytes_eq (if b then seen else seen ++ name ∷ []) (filter_map kept_name js)) (unseen before name seen duplicate d)

@@ -8,7 +8,6 @@ pub mod StatementsTyped
 pub mod BodiesTyped
 pub mod Sights
 pub mod KeptItems
-pub mod Undivided
 pub mod Structs
 pub mod FunctionsTyped
 pub mod ProgramsTyped

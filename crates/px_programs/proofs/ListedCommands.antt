@@ -12,7 +12,7 @@ use Rattle.px_syntax.specs.TypedTree.{Expression, constant, null, local, negated
 use Rattle.px_syntax.specs.declared.typed_expression.Arithmetic.TheVariants.{Add, Subtract, Multiply, Divide, Remainder}
 use Rattle.px_lower.specs.Lowering.{Lowered, and_then, doing, copy, lowered_expression, lowered_expressions, lowered_passed, lowered_condition, comparison, lowered_declaration, lowered_assignment, lowered_update, lowered_head, lowered_return, lowered_statement, lowered_statements, applied, operation, result_slot}
 use Rattle.px_lower.proofs.Sequences.{commands_then}
-use Rattle.px_programs.specs.Numbers.{IsPlain, IsListed, AreListed, IsTestListed, IsPlaceListed, IsListedIf, IsTestListedIf, IsStatementListed, AreStatementsListed}
+use Rattle.px_programs.specs.Numbers.{IsListed, AreListed, IsTestListed, IsPlaceListed, IsListedIf, IsTestListedIf, IsStatementListed, AreStatementsListed}
 use Rattle.px_programs.specs.ListedBodies.{IsCommandListed, AreCommandsListed}
 
 module _ (names types : ℕ) where
@@ -39,12 +39,12 @@ module _ (names types : ℕ) where
   compared relation.AtMost to a b site = tt
   compared relation.AtLeast to a b site = tt
 
-  operation_listed : (op : Arithmetic) (a b : Operand) (n : ℕ) → IsPlain op → All (operation op a b n)
-  operation_listed Add a b n h = (tt, tt)
-  operation_listed Subtract a b n h = (tt, tt)
-  operation_listed Multiply a b n h = (tt, tt)
-  operation_listed (Divide site) a b n h = absurd h
-  operation_listed (Remainder site) a b n h = absurd h
+  operation_listed : (op : Arithmetic) (a b : Operand) (n : ℕ) → All (operation op a b n)
+  operation_listed Add a b n = (tt, tt)
+  operation_listed Subtract a b n = (tt, tt)
+  operation_listed Multiply a b n = (tt, tt)
+  operation_listed (Divide site) a b n = (tt, tt)
+  operation_listed (Remainder site) a b n = (tt, (tt, (tt, tt)))
 
   mutual
     expression_listed : (e : Expression) (n : ℕ) → IsListed names types e → All (lowered_expression e n).commands
@@ -54,7 +54,7 @@ module _ (names types : ℕ) where
     expression_listed (negated e) n h = then' (lowered_expression e n) _ (expression_listed e n h) (λ x. (tt, tt))
     expression_listed (arithmetic op a b) n h =
         let m = (lowered_expression a n).next in
-        then' (lowered_expression a n) _ (expression_listed a n h.1) (λ x. then' (lowered_expression b m) _ (expression_listed b m h.2) (λ y. operation_listed op x y (lowered_expression b m).next h.0))
+        then' (lowered_expression a n) _ (expression_listed a n h.0) (λ x. then' (lowered_expression b m) _ (expression_listed b m h.1) (λ y. operation_listed op x y (lowered_expression b m).next))
     expression_listed (truth c) n h = then' (lowered_condition c n) _ (test_listed c n h) (λ slot. tt)
     expression_listed (cell p field b site) n h = then' (lowered_expression p n) _ (expression_listed p n h.0) (λ x. (h.1, (tt, tt)))
     expression_listed (allocate b site) n h = (h, tt)
@@ -112,14 +112,14 @@ module _ (names types : ℕ) where
       let m = (lowered_expression p n).next in
       then' (lowered_expression p n) _ (expression_listed p n hp.0) (λ at. then' (lowered_expression e m) _ (expression_listed e m h) (λ x. (hp.1, tt)))
 
-  update_listed : (op : Arithmetic) (place : Place) (e : Expression) (n : ℕ) → IsPlain op → IsPlaceListed names types place → IsListed names types e → All (lowered_update op place e n).commands
-  update_listed op (local_place i site) e n plain hp h =
+  update_listed : (op : Arithmetic) (place : Place) (e : Expression) (n : ℕ) → IsPlaceListed names types place → IsListed names types e → All (lowered_update op place e n).commands
+  update_listed op (local_place i site) e n hp h =
       let m = (lowered_expression e n).next in (
         tt,
         then' (lowered_expression e n) (λ x n. and_then (applied op (Slot i) x n) (λ new n. doing (copy i new) n)) (expression_listed e n h) (λ x.
-            all_both (operation op (Slot i) x m) (copy i (Slot (result_slot op m)) ∷ []) (operation_listed op (Slot i) x m plain) (tt, tt)),
+            all_both (operation op (Slot i) x m) (copy i (Slot (result_slot op m)) ∷ []) (operation_listed op (Slot i) x m) (tt, tt)),
       )
-  update_listed op (cell_place p field b site) e n plain hp h =
+  update_listed op (cell_place p field b site) e n hp h =
       let a = (lowered_expression p n).next in
       then' (lowered_expression p n) _ (expression_listed p n hp.0) (λ at.
       let m = (lowered_expression e (suc a)).next in (
@@ -127,7 +127,7 @@ module _ (names types : ℕ) where
         (
           tt,
           then' (lowered_expression e (suc a)) (λ x n. and_then (applied op (Slot a) x n) (λ new n. doing (command.store at field b new site) n)) (expression_listed e (suc a) h) (λ x.
-              all_both (operation op (Slot a) x m) (command.store at field b (Slot (result_slot op m)) site ∷ []) (operation_listed op (Slot a) x m plain) (hp.1, tt)),
+              all_both (operation op (Slot a) x m) (command.store at field b (Slot (result_slot op m)) site ∷ []) (operation_listed op (Slot a) x m) (hp.1, tt)),
         ),
       ))
 
@@ -144,7 +144,7 @@ module _ (names types : ℕ) where
     statement_listed (block statements) n h = statements_listed statements n h
     statement_listed (declare i e) n h = declaration_listed i e n h
     statement_listed (assign place e) n h = assignment_listed place e n h.0 h.1
-    statement_listed (update op place e) n h = update_listed op place e n h.0 h.1 h.2
+    statement_listed (update op place e) n h = update_listed op place e n h.0 h.1
     statement_listed (run_call proc es site) n h = then' (lowered_expressions es n) _ (each_listed es n h.1) (λ xs. (h.0, tt))
     statement_listed (free e b site) n h = then' (lowered_expression e n) _ (expression_listed e n h.0) (λ x. (h.1, tt))
     statement_listed (input site) n h = (tt, tt)

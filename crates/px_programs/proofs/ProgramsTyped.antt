@@ -22,8 +22,8 @@ use Rattle.px_bodies.specs.Environment.{Environment, Signature, signature_of, pr
 use Rattle.px_bodies.specs.Typed.{declared_fields}
 use Rattle.px_bodies.specs.Expressions.{call_type}
 use Rattle.px_typing.specs.Declarations.{first_of, declared_by, signature_in}
-use Rattle.px_typing.specs.Keeping.{Judged, kept_trees, marked_after}
-use Rattle.px_typing.specs.Mentions.{Mention, calls, declares, blocks, of_type, of_item, a_division}
+use Rattle.px_typing.specs.Keeping.{Judged, kept_trees}
+use Rattle.px_typing.specs.Mentions.{Mention, calls, declares, blocks, of_type, of_item}
 use Rattle.px_typing.specs.Sights.{number_in}
 use Rattle.px_typing.specs.Programs.{environment_in, judged_in, names_of, blocks_of, mentions, seen_names, seen_blocks, kept_name, left_name, mentioned_name, mentioned_blocks, called_blocks, result_blocks, behind, block_type, struct_block, procedure_of, left_of, site_of, program_of, program_of_judged}
 use Rattle.px_typing.proofs.NumberingLemmas.{base_refl}
@@ -35,9 +35,8 @@ use Rattle.px_programs.proofs.Lists.{all_first, all_second, all_get, all_change,
 use Rattle.px_programs.proofs.TypeWords.{same_type_is, IsListedType, IsKnown, value_listed, tag_known}
 use Rattle.px_programs.proofs.TypedValues.{IsAsDeclared, KnownMention, KnownFields}
 use Rattle.px_programs.proofs.Sights.{IsAtItsNumber, all_begin, sights_at, sights_hold, number_of}
-use Rattle.px_programs.proofs.KeptItems.{judged_after, IsNumbered, aligned, as_many, names_new, bare}
+use Rattle.px_programs.proofs.KeptItems.{judged_after, IsNumbered, aligned, as_many, names_new}
 use Rattle.px_programs.proofs.Structs.{fields_mentioned}
-use Rattle.px_programs.proofs.Undivided.{IsUndivided, kept_undivided}
 use Rattle.px_programs.proofs.FunctionsTyped.{IsOf, function_is, KeepsRules, function_keeps}
 use Rattle.px_terms.proofs.Recursion.{all_push, all_both}
 
@@ -155,21 +154,20 @@ module _ (items : List ParsedTree) where
       by (Some t) k = k
 
   mentions_known : (ns : List Mention) → AllByRecursion (IsListedType env P.types) (flat_map mentioned_blocks ns) → AllByRecursion (IsListedType env P.types) (flat_map (called_blocks (signature_in items)) ns)
-      → AllByRecursion (IsAtItsNumber bytes_eq bytes_eq-Decides names) (filter_map mentioned_name ns) → AllByRecursion IsUndivided ns → AllByRecursion Known ns
-  mentions_known [] a b c d = tt
-  mentions_known (a_division ∷ ns) a b c d = let z : true ≡ false = d.0 in absurd cc
-  mentions_known (calls f ∷ ns) a b c d = (
+      → AllByRecursion (IsAtItsNumber bytes_eq bytes_eq-Decides names) (filter_map mentioned_name ns) → AllByRecursion Known ns
+  mentions_known [] a b c = tt
+  mentions_known (calls f ∷ ns) a b c = (
     record {
       below = slice_get_within names (number_in bytes_eq names f) f c.0;
       result = result_known (signature_in items f) (all_first (IsListedType env P.types) (called_blocks (signature_in items) (calls f)) (flat_map (called_blocks (signature_in items)) ns) b);
       declared = as_declared f c.0;
     },
-    mentions_known ns a (all_second (IsListedType env P.types) (called_blocks (signature_in items) (calls f)) (flat_map (called_blocks (signature_in items)) ns) b) c.1 d.1,
+    mentions_known ns a (all_second (IsListedType env P.types) (called_blocks (signature_in items) (calls f)) (flat_map (called_blocks (signature_in items)) ns) b) c.1,
   )
-  mentions_known (declares f ∷ ns) a b c d = (tt, mentions_known ns a b c.1 d.1)
-  mentions_known (blocks base n ∷ ns) a b c d = (
+  mentions_known (declares f ∷ ns) a b c = (tt, mentions_known ns a b c.1)
+  mentions_known (blocks base n ∷ ns) a b c = (
     all_first (IsListedType env P.types) (behind base n) (flat_map mentioned_blocks ns) a,
-    mentions_known ns (all_second (IsListedType env P.types) (behind base n) (flat_map mentioned_blocks ns) a) b c d.1,
+    mentions_known ns (all_second (IsListedType env P.types) (behind base n) (flat_map mentioned_blocks ns) a) b c,
   )
 
   mentioned : AllByRecursion Known ms
@@ -180,7 +178,6 @@ module _ (items : List ParsedTree) where
       (all_second (IsListedType env P.types) (flat_map mentioned_blocks ms) (flat_map (called_blocks (signature_in items)) ms) blocks)
       (all_second (IsAtItsNumber bytes_eq bytes_eq-Decides names) (filter_map left_name js) (filter_map mentioned_name ms)
       (all_second (IsAtItsNumber bytes_eq bytes_eq-Decides names) (filter_map kept_name js) (filter_map left_name js ++ filter_map mentioned_name ms) names_listed))
-      (kept_undivided (bare items) (marked_after [] items))
 
   known_fields : (fs : List (List ℕ × TypeName)) → AllByRecursion Known (flat_map (λ (f : List ℕ × TypeName). of_type f.1) fs) → AllByRecursion (λ (f : List ℕ × TypeName). IsKnown env P.types f.1) fs
   known_fields [] h = tt
@@ -235,13 +232,11 @@ module _ (items : List ParsedTree) where
   mentioned_known : (m : Mention) → AllByRecursion (IsListedType env P.types) (mentioned_blocks m) → AllByRecursion (IsKnown env P.types) (mentioned_blocks m)
   mentioned_known (calls f) h = tt
   mentioned_known (declares f) h = tt
-  mentioned_known a_division h = tt
   mentioned_known (blocks base n) h = after_known base n h
 
   called_known : (m : Mention) → AllByRecursion (IsListedType env P.types) (called_blocks (signature_in items) m) → AllByRecursion (IsKnown env P.types) (called_blocks (signature_in items) m)
   called_known (calls f) h = result_blocks_known (option_and_then (λ (s : Signature). s.result) (signature_in items f)) h
   called_known (declares f) h = tt
-  called_known a_division h = tt
   called_known (blocks base n) h = tt
 
   blocks_known : AllByRecursion (IsKnown env P.types) (seen_blocks (signature_in items) ms)

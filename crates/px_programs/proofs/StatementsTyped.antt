@@ -12,8 +12,6 @@ use Rattle.px_syntax.specs.StatementTree as S
 use Rattle.px_syntax.specs.StatementTree.{InitTree, SimpleTree, FirstTree, StatementTree, StatementTrees}
 use Rattle.px_syntax.specs.TypedTree as T
 use Rattle.px_syntax.specs.TypedTree.{Expression, Condition, Place, Statement}
-use Rattle.px_syntax.specs.declared.expression.BinaryOperator.{BinaryOperator}
-use Rattle.px_syntax.specs.declared.expression.BinaryOperator.TheVariants as B
 use Rattle.px_bodies.specs.Types.{given, int, same_type}
 use Rattle.px_bodies.specs.Environment.{Environment, value_type}
 use Rattle.px_bodies.specs.Typed.{as_freed}
@@ -23,8 +21,8 @@ use Rattle.px_bodies.specs.Statements.{arithmetic_of, typed_place, typed_update,
 use Rattle.px_typing.specs.Mentions.{Mention, of_expression, of_option, of_simple}
 use Rattle.px_meaning.specs.TypedProgram.{TypedProgram}
 use Rattle.px_meaning.specs.TreeTypes.{IsConditionIf, IsDeclared, IsStep, IsStatement, AreStatements}
-use Rattle.px_programs.specs.Numbers.{IsListedIf, IsTestListedIf, IsStatementListed, AreStatementsListed, IsPlain}
-use Rattle.px_programs.proofs.Options.{Holds, on_when_is, on_given, on_given_when, on_map}
+use Rattle.px_programs.specs.Numbers.{IsListedIf, IsTestListedIf, IsStatementListed, AreStatementsListed}
+use Rattle.px_programs.proofs.Options.{Holds, on_when_is, on_given, on_given_when, on_any, on_map}
 use Rattle.px_programs.proofs.Lists.{all_first, all_second}
 use Rattle.px_programs.proofs.TypeWords.{same_type_is, IsListedType}
 use Rattle.px_programs.proofs.TypedValues.{one_good, KnownMention, KnownFields, agrees_as_statement, IsGood, IsGoodTest, IsGoodTyped, IsGoodPlace, place_good, IsGoodFreed, freed_good}
@@ -72,24 +70,17 @@ module _ (env : Environment) (P : TypedProgram) (names : ℕ) (fields : KnownFie
           (typed_good env P names fields (slice_get whole) visible fit e k) (place_good env P names (slice_get whole))
 
       -- what is updated is an int
-      updated : (o : Arithmetic) → IsPlain o → (p : TypeName × Place) (v : Expression) → IsGoodPlace env P names (slice_get whole) p → IsGood env P names (slice_get whole) V.Int v → Holds IsGoodStep (typed_update o p v)
-      updated o plain p v hp hv =
+      updated : (o : Arithmetic) (p : TypeName × Place) (v : Expression) → IsGoodPlace env P names (slice_get whole) p → IsGood env P names (slice_get whole) V.Int v → Holds IsGoodStep (typed_update o p v)
+      updated o p v hp hv =
           on_when_is IsGoodStep (same_type int p.0) (T.update o p.1 v) (λ e.
           let place = subst (λ t. IsGoodPlace env P names (slice_get whole) (t, p.1)) (sym (same_type_is int p.0 e)) hp in
-          (tt, λ inside. ((place.0, hv.0), (plain, place.1, hv.1))))
-
-      -- the operators of assignments
-      update_plain : (operator : BinaryOperator) → Holds IsPlain (arithmetic_of operator)
-      update_plain B.Multiply = tt
-      update_plain B.Add = tt
-      update_plain B.Subtract = tt
-      update_plain _ = tt
+          (tt, λ inside. ((place.0, hv.0), (place.1, hv.1))))
 
       -- `++` and `--`
-      stepped : (o : Arithmetic) → IsPlain o → (place : ExpressionTree) → Known (of_expression place) → Holds IsGoodStep (given (typed_place env visible place) (λ p. typed_update o p (T.constant (pos 1))))
-      stepped o plain place k =
+      stepped : (o : Arithmetic) (place : ExpressionTree) → Known (of_expression place) → Holds IsGoodStep (given (typed_place env visible place) (λ p. typed_update o p (T.constant (pos 1))))
+      stepped o place k =
           on_given (IsGoodPlace env P names (slice_get whole)) IsGoodStep (typed_place env visible place) _ (place_typed place k)
-          (λ p hp. updated o plain p (T.constant (pos 1)) hp (one_good env P names (slice_get whole)))
+          (λ p hp. updated o p (T.constant (pos 1)) hp (one_good env P names (slice_get whole)))
 
       pub simple_good : (s : SimpleTree) → Known (of_simple s) → Holds IsGoodStep (typed_simple env visible s)
       simple_good (S.assign place value) k =
@@ -98,12 +89,12 @@ module _ (env : Environment) (P : TypedProgram) (names : ℕ) (fields : KnownFie
           (as_good env P names fields (slice_get whole) visible fit p.0 value (known_second (of_expression place) (of_expression value) k))
           (λ v hv. (tt, λ inside. ((value_type env p.0, hp.0, hv.0), (hp.1, hv.1)))))
       simple_good (S.update operator place value) k =
-          on_given IsPlain IsGoodStep (arithmetic_of operator) _ (update_plain operator) (λ o plain.
+          on_any IsGoodStep (arithmetic_of operator) _ (λ o.
           on_given (IsGoodPlace env P names (slice_get whole)) IsGoodStep (typed_place env visible place) _ (place_typed place (known_first (of_expression place) (of_expression value) k)) (λ p hp.
           on_given (IsGood env P names (slice_get whole) V.Int) IsGoodStep (typed_as env visible int value) _
-          (as_good env P names fields (slice_get whole) visible fit int value (known_second (of_expression place) (of_expression value) k)) (λ v hv. updated o plain p v hp hv)))
-      simple_good (S.increment place) k = stepped Add tt place k
-      simple_good (S.decrement place) k = stepped Subtract tt place k
+          (as_good env P names fields (slice_get whole) visible fit int value (known_second (of_expression place) (of_expression value) k)) (λ v hv. updated o p v hp hv)))
+      simple_good (S.increment place) k = stepped Add place k
+      simple_good (S.decrement place) k = stepped Subtract place k
       simple_good (S.a_call (E.call f site arguments)) k =
           on_given_when IsGoodStep (is_none (named f visible)) (parameters_of (env.signature f)) _
           (on_given (AreArguments env P names fields (slice_get whole) (parameters_of (env.signature f))) IsGoodStep (typed_arguments env visible (parameters_of (env.signature f)) arguments) _

@@ -22,11 +22,11 @@ use Rattle.px_bodies.specs.Types.{when, given, int, is_pointer, is_int, is_value
 use Rattle.px_bodies.specs.Environment.{Environment, Signature, type_id, value_type}
 use Rattle.px_bodies.specs.Typed.{Typed, of_type, a_null, a_zero, a_test, as_type, as_value, as_argument, as_condition, as_place, as_freed, typed_constant, typed_minus, common_type, compared_at, typed_cell, typed_indirection, field_named, typed_arrow, typed_malloc, is_block, is_cast_to}
 use Rattle.px_bodies.specs.Expressions.{typed_unary, typed_binary, after_first, parameters_of, call_type}
-use Rattle.px_typing.specs.Mentions.{Mention, calls, declares, blocks, a_division, of_operator}
+use Rattle.px_typing.specs.Mentions.{Mention, calls, declares, blocks}
 use Rattle.px_typing.specs.Programs.{behind}
 use Rattle.px_meaning.specs.TypedProgram.{TypedProgram}
 use Rattle.px_meaning.specs.TreeTypes.{LocalTypes, IsOf, IsCondition, IsPlaceOf, AgreesWith, IsDefined}
-use Rattle.px_programs.specs.Numbers.{IsListed, IsTestListed, IsPlaceListed, IsPlain}
+use Rattle.px_programs.specs.Numbers.{IsListed, IsTestListed, IsPlaceListed}
 use Rattle.px_programs.proofs.Options.{Holds, on_when, on_when_is, on_cond, on_change, on_given}
 use Rattle.px_programs.proofs.TypeWords.{same_type_is, int_value, plain_value, pointer_value, pointing_value, block_defined, IsListedType, IsKnown, IsPointee, IsCellOf, pointee_known, after_last, number_below, value_cell, named_field}
 
@@ -51,7 +51,6 @@ module _ (env : Environment) (P : TypedProgram) (names : ℕ) where
   KnownMention (calls f) = KnownCall f
   KnownMention (declares f) = ⊤
   KnownMention (blocks base n) = AllByRecursion (IsListedType env P.types) (behind base n)
-  KnownMention a_division = ⊥
 
   -- the fields of structs
   abbrev pub KnownFields : Type 0
@@ -200,8 +199,8 @@ module _ (env : Environment) (P : TypedProgram) (names : ℕ) (locals : LocalTyp
         on_given (IsGood V.Int) IsGoodTyped (as_type int a) _ (type_good int a h) (λ x hx.
         on_given (IsGood V.Int) IsGoodTyped (as_type int b) _ (type_good int b k) (λ y hy. on x y hx hy))
 
-    sum : (o : Arithmetic) → IsPlain o → (x y : Expression) → IsGood V.Int x → IsGood V.Int y → IsGoodTyped (of_type int (T.arithmetic o x y))
-    sum o plain x y hx hy = int_good (T.arithmetic o x y) ((refl, hx.0, hy.0), (plain, hx.1, hy.1))
+    sum : (o : Arithmetic) (x y : Expression) → IsGood V.Int x → IsGood V.Int y → IsGoodTyped (of_type int (T.arithmetic o x y))
+    sum o x y hx hy = int_good (T.arithmetic o x y) ((refl, hx.0, hy.0), (hx.1, hy.1))
 
     -- two pointers, or two ints
     compared : (t : TypeName) (of_ints of_places : Relation) (site : Site)
@@ -220,22 +219,22 @@ module _ (env : Environment) (P : TypedProgram) (names : ℕ) (locals : LocalTyp
             let e = sym (plain_value env t is) in
             ints x y (good_at (value_type env t) V.Int x e hx) (good_at (value_type env t) V.Int y e hy)
 
-    pub binary_good : (operator : BinaryOperator) → AllByRecursion (KnownMention env P names) (of_operator operator) → (site left right : Site) → Holds IsGoodTyped (typed_binary operator site left right a b)
-    binary_good B.Multiply known site left right = two (λ x y. of_type int (T.arithmetic A.Multiply x y)) (sum A.Multiply tt)
-    binary_good B.Add known site left right = two (λ x y. of_type int (T.arithmetic A.Add x y)) (sum A.Add tt)
-    binary_good B.Subtract known site left right = two (λ x y. of_type int (T.arithmetic A.Subtract x y)) (sum A.Subtract tt)
-    binary_good B.Less known site left right = two _ (λ x y hx hy. ((hx.0, hy.0), (hx.1, hy.1)))
-    binary_good B.LessEqual known site left right = two _ (λ x y hx hy. ((hx.0, hy.0), (hx.1, hy.1)))
-    binary_good B.Greater known site left right = two _ (λ x y hx hy. ((hx.0, hy.0), (hx.1, hy.1)))
-    binary_good B.GreaterEqual known site left right = two _ (λ x y hx hy. ((hx.0, hy.0), (hx.1, hy.1)))
-    binary_good B.Equal known site left right =
+    pub binary_good : (operator : BinaryOperator) (site left right : Site) → Holds IsGoodTyped (typed_binary operator site left right a b)
+    binary_good B.Multiply site left right = two (λ x y. of_type int (T.arithmetic A.Multiply x y)) (sum A.Multiply)
+    binary_good B.Add site left right = two (λ x y. of_type int (T.arithmetic A.Add x y)) (sum A.Add)
+    binary_good B.Subtract site left right = two (λ x y. of_type int (T.arithmetic A.Subtract x y)) (sum A.Subtract)
+    binary_good B.Less site left right = two _ (λ x y hx hy. ((hx.0, hy.0), (hx.1, hy.1)))
+    binary_good B.LessEqual site left right = two _ (λ x y hx hy. ((hx.0, hy.0), (hx.1, hy.1)))
+    binary_good B.Greater site left right = two _ (λ x y hx hy. ((hx.0, hy.0), (hx.1, hy.1)))
+    binary_good B.GreaterEqual site left right = two _ (λ x y hx hy. ((hx.0, hy.0), (hx.1, hy.1)))
+    binary_good B.Equal site left right =
         compared (common_type a b) R.Equal R.SamePlace site (λ x y hx hy. ((hx.0, hy.0), (hx.1, hy.1))) (λ x y block hx hy. ((block, hx.0, hy.0), (hx.1, hy.1)))
-    binary_good B.NotEqual known site left right =
+    binary_good B.NotEqual site left right =
         compared (common_type a b) R.Unequal R.OtherPlace site (λ x y hx hy. ((hx.0, hy.0), (hx.1, hy.1))) (λ x y block hx hy. ((block, hx.0, hy.0), (hx.1, hy.1)))
-    binary_good B.And known site left right = let x = test_good left a h in let y = test_good right b k in ((x.0, y.0), (x.1, y.1))
-    binary_good B.Or known site left right = let x = test_good left a h in let y = test_good right b k in ((x.0, y.0), (x.1, y.1))
-    binary_good B.Divide known site left right = absurd known.0
-    binary_good B.Remainder known site left right = absurd known.0
+    binary_good B.And site left right = let x = test_good left a h in let y = test_good right b k in ((x.0, y.0), (x.1, y.1))
+    binary_good B.Or site left right = let x = test_good left a h in let y = test_good right b k in ((x.0, y.0), (x.1, y.1))
+    binary_good B.Divide site left right = two (λ x y. of_type int (T.arithmetic (A.Divide site) x y)) (sum (A.Divide site))
+    binary_good B.Remainder site left right = two (λ x y. of_type int (T.arithmetic (A.Remainder site) x y)) (sum (A.Remainder site))
 
   -- ---- cells
 

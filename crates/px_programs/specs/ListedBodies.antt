@@ -7,7 +7,7 @@ use Rattle.px_programs.specs.Numbers.{IsValueListed}
 
 -- so many functions have names, and so many block types are listed
 module _ (names types : ℕ) where
-  -- each callee has a name, each block type is listed, and there is no division, which isn't analysed yet
+  -- each callee has a name, and each block type is listed
   abbrev mutual
     pub IsCommandListed : CommandTree → Type 0
     IsCommandListed (assign to op a b) = ⊤
@@ -27,7 +27,7 @@ module _ (names types : ℕ) where
     IsCommandListed break = ⊤
     IsCommandListed continue = ⊤
     IsCommandListed (stop word site) = ⊤
-    IsCommandListed (divide to a b site) = ⊥
+    IsCommandListed (divide to a b site) = ⊤
 
     pub AreCommandsListed : CommandTrees → Type 0
     AreCommandsListed no_commands = ⊤

@@ -5,8 +5,6 @@ use Rattle.px_terms.specs.declared.types.ValueType.{ValueType}
 use Rattle.px_terms.specs.declared.types.ValueType.TheVariants.{Int, Pointer}
 use Rattle.px_terms.specs.declared.types.BlockType.{BlockType}
 use Rattle.px_terms.specs.declared.types.BlockType.TheVariants.{One, Fields, Opaque}
-use Rattle.px_syntax.specs.declared.typed_expression.Arithmetic.{Arithmetic}
-use Rattle.px_syntax.specs.declared.typed_expression.Arithmetic.TheVariants.{Add, Subtract, Multiply, Divide, Remainder}
 use Rattle.px_syntax.specs.TypedTree.{Expression, constant, null, local, negated, arithmetic, truth, cell, allocate, get_char, call, stop, Expressions, no_expressions, an_expression, Condition, compare, word, pointer, both, either, opposite, Place, local_place, cell_place, Statement, block, declare, assign, update, run_call, free, input, choose, loop, break, continue, return, evaluate, Statements, no_statements, a_statement}
 use Rattle.px_syntax.specs.ProgramTree.{ProcedureTree}
 
@@ -21,24 +19,16 @@ module _ (types : ℕ) where
   IsBlockListed (Fields ts) = AllByRecursion IsValueListed ts
   IsBlockListed Opaque = ⊤
 
--- an operator that is analysed: no division yet
-abbrev pub IsPlain : Arithmetic → Type 0
-IsPlain Add = ⊤
-IsPlain Subtract = ⊤
-IsPlain Multiply = ⊤
-IsPlain (Divide site) = ⊥
-IsPlain (Remainder site) = ⊥
-
 -- so many functions have names
 module _ (names types : ℕ) where
-  -- each callee has a name, each block type is listed, and there is no division
+  -- each callee has a name, and each block type is listed
   abbrev mutual
     pub IsListed : Expression → Type 0
     IsListed (constant z) = ⊤
     IsListed null = ⊤
     IsListed (local n site) = ⊤
     IsListed (negated e) = IsListed e
-    IsListed (arithmetic op e f) = IsPlain op × IsListed e × IsListed f
+    IsListed (arithmetic op e f) = IsListed e × IsListed f
     IsListed (truth c) = IsTestListed c
     IsListed (cell e field b site) = IsListed e × (b.0 < types)
     IsListed (allocate b site) = b.0 < types
@@ -75,7 +65,7 @@ module _ (names types : ℕ) where
     IsStatementListed (block statements) = AreStatementsListed statements
     IsStatementListed (declare n e) = IsListedIf e
     IsStatementListed (assign place e) = IsPlaceListed place × IsListed e
-    IsStatementListed (update op place e) = IsPlain op × IsPlaceListed place × IsListed e
+    IsStatementListed (update op place e) = IsPlaceListed place × IsListed e
     IsStatementListed (run_call proc es site) = (proc.0 < names) × AreListed es
     IsStatementListed (free e b site) = IsListed e × (b.0 < types)
     IsStatementListed (input site) = ⊤

@@ -1,5 +1,5 @@
 -- Each way of a command keeps what makes entries regular.
-use Rattle.std.proofs.Common.{◌≡◌, ℕ, zero, suc, ◌+◌, ◌<◌, Bool, true, false, not, cond, nat_eq, nat_lt, ◌&&◌, Option, Some, None, List, [], ◌∷◌, ◌++◌, map, length, pos, negsuc, slice_get, slice_set, refl, sym, ap, ◌∙◌, subst, arith, append-nil}
+use Rattle.std.proofs.Common.{◌≡◌, ℕ, zero, suc, ◌+◌, ◌<◌, Bool, true, false, not, cond, nat_eq, nat_lt, ◌&&◌, ◌||◌, Option, Some, None, List, [], ◌∷◌, ◌++◌, map, length, pos, negsuc, slice_get, slice_set, refl, sym, ap, ◌∙◌, subst, arith, append-nil}
 use Rattle.std.specs.Prelude.{is_some, flat_map}
 use Rattle.std.specs.List.{list_all}
 use Rattle.std.proofs.lemmas.Bool.{and_parts, eq-eqb, ltb-true}
@@ -28,8 +28,8 @@ use Rattle.px_core.specs.Constants.{IsInRange, KeepsToRange}
 use Rattle.px_entry.specs.declared.atoms.Atom.{Atom}
 use Rattle.px_entry.specs.declared.atoms.AtomState.{AtomState}
 use Rattle.px_entry.specs.declared.atoms.AtomState.TheVariants.{Live, Freed}
-use Rattle.px_entry.specs.Sorts.{is_given_sort, is_cell_sort, is_made_sort, is_int_type, is_pointer_type, same_type, is_some_and, is_made, is_pointer, is_place_of}
-use Rattle.px_entry.specs.Decided.{is_open, assume}
+use Rattle.px_entry.specs.Sorts.{is_given_sort, is_cell_sort, is_input_sort, is_made_sort, is_int_type, is_pointer_type, same_type, is_some_and, is_input, is_made, is_int_polynomial, is_pointer, is_long, is_place_of}
+use Rattle.px_entry.specs.Decided.{word_of, is_open, assume}
 use Rattle.px_entry.specs.Cases.{may_be_at, may_be_missing, numbers_of}
 use Rattle.px_entry.specs.Contents.{fits_cell, cell_variables}
 use Rattle.px_entry.specs.Regular.{are_inputs_words, cells_of}
@@ -41,12 +41,12 @@ use Rattle.px_callgraph.specs.JobTree.{JobTree}
 use Rattle.px_callgraph.specs.States.{Done, on, content_at, operand_content, number, assumed, info, given_variables, start_of}
 use Rattle.px_callgraph.specs.Operations.{of_words, of_places, operation, made_terms, condition, contrary}
 use Rattle.px_callgraph.specs.Accesses.{listed_if, atom_ways, missing_ways, access_ways, accessed, cell_infos, block_cells, cell_contents, atom_of, meet_live, meet_freed, Access, load_access, store_access, free_access, use_state, use_atom, reach_atom, access_done}
-use Rattle.px_callgraph.specs.Commands.{read_cell, read_done, read_ways, open_if, test_done, outcome_of, last_loop, leaving, malloc_ways, malloc_done, field_type, returned, return_done, through_place, pointer_ways, is_argument, argument_contents, terms_of, assign_done, command_ways, act_done}
+use Rattle.px_callgraph.specs.Commands.{read_cell, read_done, read_ways, open_if, test_done, outcome_of, last_loop, leaving, malloc_ways, malloc_done, constant_quotient, quotient_by, divide_ways, words_divided, divide_done, field_type, returned, return_done, through_place, pointer_ways, is_argument, argument_contents, terms_of, assign_done, command_ways, act_done}
 use Rattle.px_soundness.proofs.WellFormed.{UsableWord, Good, GoodAtom, WellTyped, times, GoodConj, GoodFound, Complete, CompleteAt}
 use Rattle.px_soundness.proofs.AtomHeaps.{absent}
 use Rattle.px_soundness.proofs.Truths.{variable_is}
 use Rattle.px_soundness.proofs.Contents.{words_cases, places_cases}
-use Rattle.px_soundness.proofs.WellTyped.{each_get, grown_by, with_grown, same_grown, usable_grown, assume_more, get_next, own_cells}
+use Rattle.px_soundness.proofs.WellTyped.{good_grown, each_get, grown_by, with_grown, same_grown, usable_grown, assume_more, well_typed_assumed, get_next, own_cells}
 use Rattle.px_soundness.proofs.Sound.{Each1, each1_append, each1_if}
 use Rattle.px_soundness.proofs.PlainSteps.{content_good, operand_good}
 use Rattle.px_soundness.proofs.BlockSteps.{get_last, each_atom}
@@ -285,6 +285,37 @@ module _ (j : JobTree) (s : State) (well_typed : WellTyped j.types s) (complete 
       let complete2 = complete_assumed j.types j.body.parameters vars s.pure s.pre s.atoms low (tt, (word pure1, tt)) complete1 in
       complete_assumed j.types j.body.parameters vars pure1 s.pre s.atoms high ((word (assume vars pure1 high), tt), tt) complete2
 
+  quotient_complete : (to : ℕ) (p q : Polynomial) (o : Option Content) → Good s.vars s.pure (Word p) → Good s.vars s.pure (Word q) → CompleteAt j (quotient_by to p q o (assumed (conjunct.Unequal q) s))
+  quotient_complete to p q None gp gq =
+      let i = info sort.Input Int in
+      let x = length s.vars in
+      let vars = s.vars ++ i ∷ [] in
+      let is_quotient = conjunct.Quotient (record { 0 = x }) p q in
+      let pure1 = assume s.vars s.pure (conjunct.Unequal q) in
+      let pure2 = assume vars pure1 is_quotient in
+      let at : slice_get vars x ≡ Some i = get_next s.vars i in
+      let is : is_input vars x ≡ true = ap (λ (o : Option VarInfo). is_some_and o (λ (k : VarInfo). is_input_sort k.sort)) at in
+      let word : UsableWord vars pure2 x = (ap (λ (o : Option VarInfo). is_some_and o (λ (k : VarInfo). is_int_type k.value)) at, other_usable vars pure2 x i at refl) in
+      let grown = good_grown s.vars vars (grown_by s.vars (i ∷ [])) s.pure pure2 (λ y d. assume_more vars pure1 is_quotient y (assume_more s.vars s.pure (conjunct.Unequal q) y d)) in
+      let atoms = (well_typed_assumed j.types s (conjunct.Unequal q) well_typed).atoms in
+      let complete1 = complete_variables j.types j.body.parameters s.vars pure1 s.pre s.atoms atoms (i ∷ []) refl refl refl refl (complete_with (conjunct.Unequal q) gq.1) in
+      complete_assumed j.types j.body.parameters vars pure1 s.pre s.atoms is_quotient (is, word, (grown (Word p) gp).1, (grown (Word q) gq).1) complete1
+  quotient_complete to p q (Some c) gp gq = complete_with (conjunct.Unequal q) gq.1
+
+  divide_complete : (to : ℕ) (site : Site) (a b : Content) → Good s.vars s.pure a → Good s.vars s.pure b → Each1 (λ w. CompleteDone j (divide_done to site a b w s)) (divide_ways s.vars a b)
+  divide_complete to site (Word p) (Word q) gp gq =
+      let P : Way → Type 1 = λ w. CompleteDone j (words_divided to site w s p q) in
+      let divisible = is_open s.vars (conjunct.Unequal q) && (is_long p || is_int_polynomial s.vars p) in
+      each1_append P (listed_if (is_open s.vars (conjunct.Equal q)) way.ByZero) (listed_if divisible way.Divided)
+      (each1_if P (is_open s.vars (conjunct.Equal q)) way.ByZero (λ e. (tt, complete_with (conjunct.Equal q) gq.1)))
+      (each1_if P divisible way.Divided (λ e. (tt, quotient_complete to p q (constant_quotient (word_of p) (word_of q)) gp gq)))
+  divide_complete to site (Word p) Unwritten ga gb = tt
+  divide_complete to site (Word p) (Place b) ga gb = tt
+  divide_complete to site (Word p) (Cell y) ga gb = tt
+  divide_complete to site Unwritten b ga gb = tt
+  divide_complete to site (Place a) b ga gb = tt
+  divide_complete to site (Cell x) b ga gb = tt
+
   pub command_complete : (c : CommandTree) → KeepsToRange c → Each1 (λ w. CompleteDone j (act_done j c w s)) (command_ways j s c)
   command_complete (assign to op a b) r =
       each1_if (λ w. CompleteDone j (act_done j (assign to op a b) w s)) (is_some (operation op (operand_content s a) (operand_content s b))) way.On (λ e. (tt, same_complete (operation op (operand_content s a) (operand_content s b)) to op))
@@ -312,7 +343,7 @@ module _ (j : JobTree) (s : State) (well_typed : WellTyped j.types s) (complete 
   command_complete break r = each1_if (λ w. CompleteDone j (act_done j break w s)) (is_some (last_loop s.loops)) way.On (λ e. (tt, complete))
   command_complete continue r = each1_if (λ w. CompleteDone j (act_done j continue w s)) (is_some (last_loop s.loops)) way.On (λ e. (tt, complete))
   command_complete (stop number site) r = ((tt, complete), tt)
-  command_complete (divide to a b site) r = tt
+  command_complete (divide to a b site) r = divide_complete to site (operand_content s a) (operand_content s b) (operand_good j.types s a well_typed r.0) (operand_good j.types s b well_typed r.1)
 
 -- ---- the start
 

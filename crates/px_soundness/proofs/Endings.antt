@@ -9,6 +9,7 @@ use Rattle.px_terms.specs.declared.types.ValueType.{ValueType}
 use Rattle.px_terms.specs.declared.variables.VarInfo.{VarInfo}
 use Rattle.px_terms.specs.declared.conjuncts.Place.{Place as PlaceOf}
 use Rattle.px_terms.specs.declared.conjuncts.Place.TheVariants as place
+use Rattle.px_terms.specs.Polynomials.{Polynomial}
 use Rattle.px_terms.specs.declared.conjuncts.Content.{Content}
 use Rattle.px_terms.specs.declared.conjuncts.Content.TheVariants.{Unwritten, Word, Place, Cell}
 use Rattle.px_terms.specs.declared.conjuncts.Conj.{Conj}
@@ -28,11 +29,12 @@ use Rattle.px_callgraph.specs.JobTree.{JobTree}
 use Rattle.px_callgraph.specs.States.{Done, on, content_at, operand_content, marked, assumed}
 use Rattle.px_callgraph.specs.Operations.{operation, made_terms, condition, contrary}
 use Rattle.px_callgraph.specs.Accesses.{Access, accessed, meet_live, meet_freed, load_access, store_access, free_access, use_state, use_atom, reach_atom, access_done}
-use Rattle.px_callgraph.specs.Commands.{read_cell, read_done, test_outcome, test_done, last_loop, leaving, malloc_done, returned, return_done, terms_of, assign_done, through_place, act_done}
+use Rattle.px_callgraph.specs.Commands.{read_cell, read_done, test_outcome, test_done, last_loop, leaving, malloc_done, words_divided, returned, return_done, terms_of, assign_done, through_place, act_done}
 use Rattle.px_callgraph.specs.Alternatives.{fallen}
 use Rattle.px_soundness.proofs.WellFormed.{WellTyped, FitsResults, ResultWell, EndsWell}
 use Rattle.px_soundness.proofs.AtomHeaps.{absent}
 use Rattle.px_soundness.proofs.PlainSteps.{operand_good}
+use Rattle.px_soundness.proofs.Divisions.{divide_cases}
 
 abbrev pub DoneWell : JobTree → Done → Type 0
 DoneWell j d = EndsWell j d.state d.outcome
@@ -102,6 +104,11 @@ module _ (j : JobTree) (s : State) where
   assign_well to op None = tt
   assign_well to op (Some c) = tt
 
+  divided_well : (to : ℕ) (site : Site) (w : Way) (p q : Polynomial) → DoneWell j (words_divided to site w s p q)
+  divided_well to site way.ByZero p q = refl
+  divided_well to site way.Divided p q = tt
+  divided_well to site _ p q = tt
+
   leaving_well : (o : Option (Site × ℕ)) → DoneWell j (leaving o s)
   leaving_well None = tt
   leaving_well (Some l) = tt
@@ -138,7 +145,7 @@ module _ (j : JobTree) (s : State) where
     command_well break w r = tt
     command_well continue w r = tt
     command_well (stop number site) w r = tt
-    command_well (divide to a b site) w r = tt
+    command_well (divide to a b site) w r = divide_cases (DoneWell j) s to site w (operand_content s a) (operand_content s b) tt (divided_well to site w)
 
 -- so does a body that falls off its end
 pub fallen_well : (j : JobTree) (s : State) → ResultWell j s (fallen j.body.result)

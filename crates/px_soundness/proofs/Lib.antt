@@ -7,6 +7,7 @@ pub mod Sound
 pub mod Controls
 pub mod PlainSteps
 pub mod BlockSteps
+pub mod Divisions
 pub mod WellTypedSteps
 pub mod Complete
 pub mod CompleteMoves

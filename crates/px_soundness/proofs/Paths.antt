@@ -130,7 +130,7 @@ module _ (j : JobTree) (calls : ProcedureCalls Mark) (t : State) (e : Exit) (r :
     step_good s (Act break ∷ k) st a allowed well_formed e = own_step s break k tt well_formed a (by_name j (at (Act break ∷ k) s) (command_way s.atoms break st.rule st.choices) a e)
     step_good s (Act continue ∷ k) st a allowed well_formed e = own_step s continue k tt well_formed a (by_name j (at (Act continue ∷ k) s) (command_way s.atoms continue st.rule st.choices) a e)
     step_good s (Act (stop number site) ∷ k) st a allowed well_formed e = absurd (none-some _ e)
-    step_good s (Act (divide to x y site) ∷ k) st a allowed well_formed e = absurd (none-some _ e)
+    step_good s (Act (divide to x y site) ∷ k) st a allowed well_formed e = own_step s (divide to x y site) k tt well_formed a (by_name j (at (Act (divide to x y site) ∷ k) s) (command_way s.atoms (divide to x y site) st.rule st.choices) a e)
 
     -- ---- what takes no step of its own
 

@@ -143,7 +143,7 @@ module _ (vars : List VarInfo) (v : Valuation) (fits : Fits vars v) where
 -- ---- decided words
 
 -- the word of a polynomial without variables
-constant_word : (v : Valuation) (p : Polynomial) (a : ℕ) → IsPolynomial p → entry.word_of p ≡ Some a → word_of v p ≡ a
+pub constant_word : (v : Valuation) (p : Polynomial) (a : ℕ) → IsPolynomial p → entry.word_of p ≡ Some a → word_of v p ≡ a
 constant_word v p a form e = by p.constant p.monomials form.constant e
   where
     by : (c : ℕ) (ms : List Term) → c < 2 ^ 32 → entry.word_of (record { constant = c; monomials = ms }) ≡ Some a → word_of v (record { constant = c; monomials = ms }) ≡ a

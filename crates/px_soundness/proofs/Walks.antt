@@ -5,6 +5,7 @@ use Rattle.std.proofs.lemmas.Option.{same_Some}
 use Rattle.px_base.specs.declared.trace.Site.{Site}
 use Rattle.px_base.specs.declared.trace.Mark.{Mark}
 use Rattle.px_base.specs.declared.trace.MarkKind.TheVariants as mark
+use Rattle.px_terms.specs.Polynomials.{Polynomial}
 use Rattle.px_terms.specs.declared.types.TypeId.{TypeId}
 use Rattle.px_terms.specs.declared.types.BlockType.{BlockType}
 use Rattle.px_terms.specs.declared.variables.VarInfo.{VarInfo}
@@ -13,7 +14,7 @@ use Rattle.px_terms.specs.declared.conjuncts.Place.TheVariants as place
 use Rattle.px_terms.specs.declared.conjuncts.Content.{Content}
 use Rattle.px_terms.specs.declared.conjuncts.Content.TheVariants.{Unwritten, Word, Place, Cell}
 use Rattle.px_terms.specs.declared.conjuncts.Conj.{Conj}
-use Rattle.px_terms.specs.declared.conjuncts.Conj.TheVariants.{SamePlace}
+use Rattle.px_terms.specs.declared.conjuncts.Conj.TheVariants.{SamePlace, Unequal}
 use Rattle.px_core.specs.CommandTree.{CommandTree, assign, unset, read, test, choose, loop, leave, load, store, malloc, free, input, call, return, break, continue, stop, divide}
 use Rattle.px_core.specs.Control.{Turns, Item, Act, AfterHead, AfterBody, AfterStep, acts, no_turns, one_turn_more, leave_to}
 use Rattle.px_core.specs.Constants.{IsInRange, KeepsToRange}
@@ -22,6 +23,7 @@ use Rattle.px_core.specs.declared.command.Operator.{Operator}
 use Rattle.px_entry.specs.declared.atoms.Atom.{Atom}
 use Rattle.px_entry.specs.declared.atoms.AtomState.{AtomState}
 use Rattle.px_entry.specs.declared.atoms.AtomState.TheVariants.{Live, Freed}
+use Rattle.px_entry.specs.Decided.{word_of}
 use Rattle.px_entry.specs.Standing.{contents_value}
 use Rattle.px_entry.specs.declared.entries.Exit.{Exit}
 use Rattle.px_entry.specs.declared.tables.LongKind.{LongKind}
@@ -32,7 +34,7 @@ use Rattle.px_callgraph.specs.JobTree.{JobTree}
 use Rattle.px_callgraph.specs.States.{Outcome, goes, ends, past, drops, Done, on, marked, begun, assumed, content_at, operand_content}
 use Rattle.px_callgraph.specs.Operations.{operation, made_terms, condition, contrary}
 use Rattle.px_callgraph.specs.Accesses.{Access, accessed, meet_live, meet_freed, load_access, store_access, free_access, use_state, use_atom, reach_atom, access_done}
-use Rattle.px_callgraph.specs.Commands.{read_cell, read_done, test_outcome, test_done, outcome_of, all_but_last, repeat_loop, leaving, malloc_done, returned, return_done, terms_of, assign_done, through_place, command_ways, act_done, command_done}
+use Rattle.px_callgraph.specs.Commands.{read_cell, read_done, test_outcome, test_done, outcome_of, all_but_last, repeat_loop, leaving, malloc_done, constant_quotient, quotient_by, words_divided, divide_done, returned, return_done, terms_of, assign_done, through_place, command_ways, act_done, command_done}
 use Rattle.px_callgraph.specs.declared.outcomes.StepOutcome.TheVariants.{Next, Ends, Cut, Past}
 use Rattle.px_callgraph.specs.Alternatives.{chosen, Walk, Leads, passes, limited, led, within_limits, leads, at, items_after, after_command, item_ways, item_act}
 use Rattle.px_callgraph.specs.Derivations.{same_way}
@@ -46,6 +48,7 @@ use Rattle.px_soundness.proofs.Controls.{acts_keep, acts_open, leave_opens, brea
 use Rattle.px_soundness.proofs.Sound.{Each1, From, Can, Sound, sound_same, sound_plain}
 use Rattle.px_soundness.proofs.PlainSteps.{Does, Leads1, does_assign, does_unset, does_read, does_test, does_choose, does_loop, does_leave, does_break, does_continue, does_stop, does_return}
 use Rattle.px_soundness.proofs.BlockSteps.{does_load, does_store, does_free, does_malloc, does_input}
+use Rattle.px_soundness.proofs.Divisions.{divide_cases, does_divide}
 use Rattle.px_soundness.proofs.WellTypedSteps.{command_well_typed}
 use Rattle.px_soundness.proofs.Endings.{command_well}
 use Rattle.px_soundness.proofs.CompleteSteps.{CompleteDone, command_complete}
@@ -135,7 +138,7 @@ module _ (j : JobTree) (calls : ProcedureCalls Mark) (s : State) (k k' : List It
   command_leads break own r e = does_break j j.types calls (begun s) well_typed' k k' e
   command_leads continue own r e = does_continue j j.types calls (begun s) well_typed' k k' e
   command_leads (stop number site) own r e = subst (λ z. Leads1 j j.types calls (stop number site) k z (begun s)) (same_Some _ _ e) (does_stop j j.types calls (begun s) well_typed' k number site)
-  command_leads (divide to a b site) own r e = tt
+  command_leads (divide to a b site) own r e = subst (λ z. Leads1 j j.types calls (divide to a b site) k z (begun s)) (same_Some _ _ e) (does_divide j j.types calls (begun s) well_typed' k to a b site r.0 r.1)
 
 -- ---- open loops
 
@@ -205,6 +208,18 @@ module _ (j : JobTree) (s : State) where
   assign_loops to op None = refl
   assign_loops to op (Some c) = refl
 
+  quotient_loops : (to : ℕ) (p q : Polynomial) (o : Option Content) (t : State) → (quotient_by to p q o t).loops ≡ t.loops
+  quotient_loops to p q None t = refl
+  quotient_loops to p q (Some c) t = refl
+
+  divided_loops : (to : ℕ) (site : Site) (w : Way) (p q : Polynomial) → (words_divided to site w s p q).state.loops ≡ s.loops
+  divided_loops to site way.ByZero p q = refl
+  divided_loops to site way.Divided p q = quotient_loops to p q (constant_quotient (word_of p) (word_of q)) (assumed (Unequal q) s)
+  divided_loops to site _ p q = refl
+
+  divide_loops : (to : ℕ) (site : Site) (w : Way) (a b : Content) → (divide_done to site a b w s).state.loops ≡ s.loops
+  divide_loops to site w a b = divide_cases (λ (d : Done). d.state.loops ≡ s.loops) s to site w a b refl (divided_loops to site w)
+
   return_loops : (o : Option (Option Content)) → (return_done o s).state.loops ≡ s.loops
   return_loops None = refl
   return_loops (Some r) = refl
@@ -241,7 +256,7 @@ module _ (j : JobTree) (s : State) (k k' : List Item) (opens : Opens k s.loops) 
   command_opens break w e = break_opens k s.loops k' opens e
   command_opens continue w e = continue_opens k s.loops k' opens e
   command_opens (stop number site) w e = stay (act_done j (stop number site) w s).state refl e
-  command_opens (divide to a b site) w e = stay (act_done j (divide to a b site) w s).state refl e
+  command_opens (divide to a b site) w e = stay (act_done j (divide to a b site) w s).state (divide_loops j s to site w (operand_content s a) (operand_content s b)) e
 
 -- ---- items
 

@@ -1,14 +1,16 @@
 -- Each way of a command keeps a state well-typed.
 use Rattle.std.proofs.Common.{◌≡◌, ℕ, zero, suc, Bool, true, false, not, cond, nat_eq, nat_lt, ◌&&◌, ◌||◌, Option, Some, None, List, [], ◌∷◌, ◌++◌, map, length, pos, negsuc, get_or, slice_get, slice_set, refl, sym, ap, ◌∙◌, subst, arith}
-use Rattle.std.specs.Prelude.{All, is_some, FitsSigned}
-use Rattle.std.specs.Int.{w32}
+use Rattle.std.specs.Prelude.{All, is_some, int_div, FitsSigned}
+use Rattle.std.specs.Int.{w32, int_wrap}
 use Rattle.std.specs.List.{list_all, list_any}
 use Rattle.std.proofs.lemmas.Bool.{and_parts, and_from, eqb-true, eq-eqb, ltb-true, or_right}
+use Rattle.std.proofs.lemmas.Int.{SFits-int_wrap}
 use Rattle.std.proofs.lemmas.Option.{slice_get-get_or, same_Some}
 use Rattle.px_base.specs.declared.trace.Site.{Site}
 use Rattle.px_base.specs.declared.trace.MarkKind.{MarkKind}
 use Rattle.px_base.specs.declared.trace.MarkKind.TheVariants as mark
 use Rattle.px_terms.specs.Types.{types_of}
+use Rattle.px_terms.specs.Words.{signed}
 use Rattle.px_terms.specs.Polynomials.{Polynomial, terms_of as sum_terms, negated, pairs, sum_of, difference_of, product_of}
 use Rattle.px_terms.specs.Variables.{variables_of}
 use Rattle.px_terms.specs.Substitutions.{variable}
@@ -38,9 +40,9 @@ use Rattle.px_core.specs.Constants.{IsInRange, KeepsToRange}
 use Rattle.px_entry.specs.declared.atoms.Atom.{Atom}
 use Rattle.px_entry.specs.declared.atoms.AtomState.{AtomState}
 use Rattle.px_entry.specs.declared.atoms.AtomState.TheVariants.{Live, Freed}
-use Rattle.px_entry.specs.Sorts.{is_cell_sort, is_made_sort, is_int_type, is_pointer_type, same_type, is_some_and, is_cell, is_made, is_int, is_pointer, has_type, is_place_of}
+use Rattle.px_entry.specs.Sorts.{is_cell_sort, is_made_sort, is_int_type, is_pointer_type, same_type, is_some_and, is_cell, is_made, is_int, is_int_polynomial, is_pointer, is_long, has_type, is_place_of}
 use Rattle.px_entry.specs.Equality.{same_conjunct}
-use Rattle.px_entry.specs.Decided.{is_open, assume, stands_in}
+use Rattle.px_entry.specs.Decided.{word_of, is_open, assume, stands_in}
 use Rattle.px_entry.specs.Cases.{may_be_at, may_be_missing, numbers_of}
 use Rattle.px_entry.specs.Contents.{fits_cell, fit_each, variable_content}
 use Rattle.px_entry.specs.Regular.{is_said_written, points_to_block, fits_state, state_cells}
@@ -49,10 +51,10 @@ use Rattle.px_callgraph.specs.declared.states.State.{State}
 use Rattle.px_callgraph.specs.declared.states.Way.{Way}
 use Rattle.px_callgraph.specs.declared.states.Way.TheVariants as way
 use Rattle.px_callgraph.specs.JobTree.{JobTree}
-use Rattle.px_callgraph.specs.States.{on, content_at, operand_content, number, set_slot, marked, assumed, info}
+use Rattle.px_callgraph.specs.States.{on, content_at, operand_content, number, set_slot, marked, assumed, info, with_variables}
 use Rattle.px_callgraph.specs.Operations.{operation, made_terms, condition, contrary}
 use Rattle.px_callgraph.specs.Accesses.{listed_if, atom_ways, missing_ways, access_ways, accessed, cell_infos, block_cells, cell_contents, atom_of, meet_live, meet_freed, Access, load_access, store_access, free_access, use_state, use_atom, reach_atom, access_done}
-use Rattle.px_callgraph.specs.Commands.{read_ways, read_cell, read_done, open_if, test_done, outcome_of, last_loop, leaving, malloc_ways, malloc_done, input_done, field_type, returned, return_done, through_place, pointer_ways, is_argument, argument_contents, terms_of, assign_done, command_ways, act_done}
+use Rattle.px_callgraph.specs.Commands.{read_ways, read_cell, read_done, open_if, test_done, outcome_of, last_loop, leaving, malloc_ways, malloc_done, input_done, constant_quotient, quotient_by, divide_ways, words_divided, divide_done, field_type, returned, return_done, through_place, pointer_ways, is_argument, argument_contents, terms_of, assign_done, command_ways, act_done}
 use Rattle.px_soundness.proofs.WellFormed.{is_usable, UsableWord, Good, GoodAtom, WellTyped}
 use Rattle.px_soundness.proofs.AtomHeaps.{absent}
 use Rattle.px_soundness.proofs.Truths.{variable_is}
@@ -61,6 +63,7 @@ use Rattle.px_soundness.proofs.WellTyped.{Grown, SaysMore, fits_grown, good_grow
 use Rattle.px_soundness.proofs.Sound.{Each1, each1_append, each1_if}
 use Rattle.px_soundness.proofs.PlainSteps.{content_good, operand_good, some_from}
 use Rattle.px_soundness.proofs.BlockSteps.{get_last, each_atom, over}
+use Rattle.px_soundness.proofs.Divisions.{constant_cases}
 use Rattle.px_callgraph.proofs.KeepLemmas.{each_weaker}
 
 -- ---- results of operators
@@ -398,6 +401,39 @@ module _ (j : JobTree) (types : List BlockType) (s : State) (well_typed : WellTy
       let at : slice_get vars x ≡ Some i = get_next s.vars i in
       record { slots = each_set _ s.slots to (Word (variable x)) u.slots (variable_good vars pure2 x i at (other_usable vars pure2 x i at refl)); atoms = u.atoms; own = u.own }
 
+  -- ---- divisions
+
+  quotient_well_typed : (to : ℕ) (p q : Polynomial) (o : Option Content) → constant_quotient (word_of p) (word_of q) ≡ o → WellTyped types (quotient_by to p q o (assumed (conjunct.Unequal q) s))
+  quotient_well_typed to p q None e =
+      let i = info sort.Input Int in
+      let x = length s.vars in
+      let s1 : State = assumed (conjunct.Unequal q) s in
+      let s2 : State = with_variables (i ∷ []) s1 in
+      let s3 : State = assumed (conjunct.Quotient (record { 0 = x }) p q) s2 in
+      let u : WellTyped types s3 = well_typed_assumed types s2 (conjunct.Quotient (record { 0 = x }) p q) (well_typed_variables types s1 (i ∷ []) (well_typed_assumed types s (conjunct.Unequal q) well_typed)) in
+      let at : slice_get s2.vars x ≡ Some i = get_next s.vars i in
+      well_typed_slot types s3 to (Word (variable x)) (variable_good s2.vars s3.pure x i at (other_usable s2.vars s3.pure x i at refl)) u
+  quotient_well_typed to p q (Some c) e =
+      let (m, n, one, two, other, same) = constant_cases (word_of p) (word_of q) c e in
+      let s1 : State = assumed (conjunct.Unequal q) s in
+      well_typed_slot types s1 to c
+      (subst (Good s1.vars s1.pure) same (number_good s1.vars s1.pure (int_wrap w32 (int_div (signed m) (signed n))) (SFits-int_wrap w32 (int_div (signed m) (signed n)))))
+      (well_typed_assumed types s (conjunct.Unequal q) well_typed)
+
+  divide_well_typed : (to : ℕ) (site : Site) (a b : Content) → Each1 (λ w. Unit {1} × WellTyped types (divide_done to site a b w s).state) (divide_ways s.vars a b)
+  divide_well_typed to site (Word p) (Word q) =
+      let P : Way → Type 1 = λ w. Unit {1} × WellTyped types (words_divided to site w s p q).state in
+      let divisible = is_open s.vars (conjunct.Unequal q) && (is_long p || is_int_polynomial s.vars p) in
+      each1_append P (listed_if (is_open s.vars (conjunct.Equal q)) way.ByZero) (listed_if divisible way.Divided)
+      (each1_if P (is_open s.vars (conjunct.Equal q)) way.ByZero (λ e. (tt, well_typed_assumed types s (conjunct.Equal q) well_typed)))
+      (each1_if P divisible way.Divided (λ e. (tt, quotient_well_typed to p q (constant_quotient (word_of p) (word_of q)) refl)))
+  divide_well_typed to site (Word p) Unwritten = tt
+  divide_well_typed to site (Word p) (Place b) = tt
+  divide_well_typed to site (Word p) (Cell y) = tt
+  divide_well_typed to site Unwritten b = tt
+  divide_well_typed to site (Place a) b = tt
+  divide_well_typed to site (Cell x) b = tt
+
 -- ---- all commands
 
 module _ (j : JobTree) (s : State) (well_typed : WellTyped j.types s) where
@@ -439,4 +475,4 @@ module _ (j : JobTree) (s : State) (well_typed : WellTyped j.types s) where
   command_well_typed break r = each1_if (λ w. Unit {1} × WellTyped j.types (act_done j break w s).state) (is_some (last_loop s.loops)) way.On (λ e. (tt, record { slots = well_typed.slots; atoms = well_typed.atoms; own = well_typed.own }))
   command_well_typed continue r = each1_if (λ w. Unit {1} × WellTyped j.types (act_done j continue w s).state) (is_some (last_loop s.loops)) way.On (λ e. (tt, well_typed))
   command_well_typed (stop number site) r = ((tt, well_typed), tt)
-  command_well_typed (divide to a b site) r = tt
+  command_well_typed (divide to a b site) r = divide_well_typed j j.types s well_typed to site (operand_content s a) (operand_content s b)

@@ -1,24 +1,26 @@
--- The entries of two small procedures are valid triples.
-use Rattle.std.specs.Prelude.{List, [], ◌∷◌, None, pos, slice_get}
+-- The entries of three small procedures are valid triples.
+use Rattle.std.specs.Prelude.{List, [], ◌∷◌, Option, Some, None, pos, slice_get}
 use Rattle.px_base.specs.declared.trace.Mark.{Mark}
 use Rattle.px_base.specs.declared.trace.MarkKind.TheVariants as mark
-use Rattle.px_base.specs.declared.trace.Kind.TheVariants.{DoubleFree}
-use Rattle.px_terms.specs.declared.types.ValueType.TheVariants.{Pointer}
+use Rattle.px_base.specs.declared.trace.Kind.TheVariants.{DoubleFree, DivisionByZero}
+use Rattle.px_terms.specs.declared.types.ValueType.TheVariants.{Int, Pointer}
 use Rattle.px_terms.specs.declared.types.Value.{Value}
 use Rattle.px_terms.specs.declared.types.Value.TheVariants as value
 use Rattle.px_terms.specs.declared.variables.VarInfo.{VarInfo}
 use Rattle.px_terms.specs.declared.variables.Sort.TheVariants as sort
+use Rattle.px_terms.specs.declared.conjuncts.Content.{Content}
 use Rattle.px_terms.specs.declared.conjuncts.Conj.{Conj}
+use Rattle.px_terms.specs.declared.conjuncts.Conj.TheVariants as conjunct
 use Rattle.px_core.specs.declared.command.Operand.TheVariants as operand
-use Rattle.px_core.specs.CommandTree.{commands_of, read, call}
+use Rattle.px_core.specs.CommandTree.{commands_of, read, call, divide, return}
 use Rattle.px_entry.specs.declared.atoms.Atom.{Atom}
 use Rattle.px_entry.specs.declared.entries.Entry.{Entry}
 use Rattle.px_entry.specs.declared.entries.Exit.{Exit}
 use Rattle.px_entry.specs.declared.entries.Exit.TheVariants.{Ok, Error}
 use Rattle.px_callgraph.specs.declared.jobs.Callee.TheVariants.{Table as TableOf}
 use Rattle.px_callgraph.specs.JobTree.{JobTree}
-use Rattle.px_callgraph.specs.WorkedStates.{int_block, proc, of_sort}
-use Rattle.px_callgraph.specs.WorkedPaths.{site, mark_at, two_frees, p_is_null, unknown, freed, a_cell, nulls, twice}
+use Rattle.px_callgraph.specs.WorkedStates.{int_block, proc, var, of_sort, constant, x_plus, word_of}
+use Rattle.px_callgraph.specs.WorkedPaths.{site, mark_at, job_of, two_frees, p_is_null, unknown, freed, a_cell, nulls, twice}
 use Rattle.px_meaning.specs.CoreCalls.{CoreProgram, CoreCalls}
 use Rattle.px_meaning.specs.Triples.{IsValid}
 
@@ -56,6 +58,40 @@ calls_it = record two_frees {
 abbrev pub program : CoreProgram
 program = record { types = two_frees.types; bodies = λ f. slice_get (two_frees.body ∷ calls_it.body ∷ []) f }
 
+-- `int q(int n){return 10/n;}`
+abbrev pub ten_over : JobTree
+ten_over = record (job_of 3 2 (Int ∷ []) []) {
+  body = record {
+    slots = 2;
+    parameters = Int ∷ [];
+    result = Some Int;
+    commands = commands_of (read 0 (site 24) ∷ divide 1 (operand.Word (pos 10)) (operand.Slot 0) (site 23) ∷ return (Some (operand.Slot 1)) ∷ []);
+  };
+}
+
+abbrev pub divides : CoreProgram
+divides = record { types = ten_over.types; bodies = λ f. slice_get (ten_over.body ∷ []) f }
+
+abbrev pub of_ten_over : Exit → Option Content → List VarInfo → List Conj → List Value → Entry
+of_ten_over exit result inputs pure model = record {
+  proc = proc 0;
+  trace = [];
+  exit = exit;
+  result = result;
+  vars = of_sort sort.Given Int ∷ inputs;
+  pure = pure;
+  pre = [];
+  post = [];
+  model = model;
+}
+
+-- by 0 it is an error, and else the result is the quotient
+abbrev pub by_zero : Entry
+by_zero = of_ten_over (Error DivisionByZero (site 23)) None [] (conjunct.Equal (x_plus 0 0) ∷ []) (value.Word (pos 0) ∷ [])
+
+abbrev pub by_other : Entry
+by_other = of_ten_over Ok (Some (word_of 1)) (of_sort sort.Input Int ∷ []) (conjunct.Unequal (x_plus 0 0) ∷ conjunct.Quotient (var 1) (constant 10) (x_plus 0 0) ∷ []) (value.Word (pos 3) ∷ value.Word (pos 3) ∷ [])
+
 pub record WorkedTriples : Type 0 where
   -- null is freed twice: nothing is asked of the heap, and nothing changes
   pub null : IsValid (CoreCalls program 0) 1 (an_entry Ok nulls [] (p_is_null ∷ []) [] [] (value.Null ∷ []))
@@ -67,3 +103,6 @@ pub record WorkedTriples : Type 0 where
   pub lost : ¬ IsValid (CoreCalls program 0) 1 (an_entry (Error DoubleFree (site 24)) twice (a_cell ∷ []) [] (unknown 1 ∷ []) [] (value.Block 1 ∷ value.Word (pos 0) ∷ []))
   -- the caller's block is freed twice in the call
   pub called : IsValid (CoreCalls program 1) 1 (record freed_twice { proc = proc 1; trace = mark_at (mark.Enter (proc 0)) 48 ∷ twice })
+  -- 10 over 0, and over what isn't 0
+  pub over_zero : IsValid (CoreCalls divides 0) 1 by_zero
+  pub over_other : IsValid (CoreCalls divides 0) 1 by_other

@@ -187,3 +187,5 @@ access_within types block a m s p way.Unwritten = stays s
 access_within types block a m s p way.Missing = stays s
 access_within types block a m s p (way.Entry n) = stays s
 access_within types block a m s p way.Drop = stays s
+access_within types block a m s p way.ByZero = stays s
+access_within types block a m s p way.Divided = stays s

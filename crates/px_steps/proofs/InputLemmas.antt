@@ -16,7 +16,7 @@ use Rattle.px_ways.specs.Additions.{with_conjuncts, kept_if, least_bound, most_b
 use Rattle.px_steps.specs.Additions.{ones}
 use Rattle.px_match.proofs.PathLimitLemmas.{next, none}
 
-kept : (b : Bool) (pure : List Conj) (c : Conj) → elim b as (λ _. List Conj) [ true ↦ pure | false ↦ pure ++ c ∷ [] ] ≡ pure ++ kept_if (not b) c
+pub kept : (b : Bool) (pure : List Conj) (c : Conj) → elim b as (λ _. List Conj) [ true ↦ pure | false ↦ pure ++ c ∷ [] ] ≡ pure ++ kept_if (not b) c
 kept true pure c = sym (append-nil pure)
 kept false pure c = refl
 
@@ -37,7 +37,7 @@ both_assumed vars pure x least most e h =
     ∙ ap (λ b. (pure ++ kept_if least (least_bound x)) ++ kept_if (not b) (most_bound x)) (none_more x least pure)
     ∙ ap (λ b. (pure ++ kept_if least (least_bound x)) ++ kept_if b (most_bound x)) (sym h)
 
-length_kept : (b : Bool) (c : Conj) → length (kept_if b c) ≡ ones b
+pub length_kept : (b : Bool) (c : Conj) → length (kept_if b c) ≡ ones b
 length_kept true c = refl
 length_kept false c = refl
 

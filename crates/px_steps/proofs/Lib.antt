@@ -5,3 +5,4 @@ pub mod LongLemmas
 pub mod AccessLemmas
 pub mod AccessLimits
 pub mod InputLemmas
+pub mod DivideLemmas

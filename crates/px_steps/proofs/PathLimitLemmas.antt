@@ -115,6 +115,12 @@ pub same_terms : (s u : State) (terms : List Polynomial) → list_any is_long te
 unfolding led_of
 same_terms s u terms l = ap (λ z. limited s (Next u) (first_of (length u.trace) u.steps (length u.pure) (length u.atoms) (length u.vars) z)) (sym l)
 
+pub same_end_terms : (s u : State) (terms : List Polynomial) (exit : Exit) (result : Option Content) → list_any is_long terms ≡ false →
+    led_of s (record { state = u; terms = []; outcome = ends exit result }) ≡ led_of s (record { state = u; terms = terms; outcome = ends exit result })
+unfolding led_of
+same_end_terms s u terms exit result l =
+    ap (λ z. limited s (Ends u exit result) (first_of (length u.trace) u.steps (length u.pure) (length u.atoms) (length u.vars) z)) (sym l)
+
 -- `malloc` gives a block
 abbrev pub making : Growth
 making = record { marks = 1; commands = 1; conjuncts = 0; atoms = 1; variables = 1; long_term = false }

@@ -7,7 +7,8 @@ ghost use Rattle.px_steps.specs.Led.{led_of};
 
 use crate::accesses::{freeing, loading, pointer_act, storing};
 use crate::block_acts::{give, make};
-use crate::control_acts::{begin_alone, break_loop, enter, leave, mark_alone, stop, unfollowed};
+use crate::control_acts::{begin_alone, break_loop, enter, leave, mark_alone, stop};
+use crate::divide_acts::divide;
 use crate::input_acts::input;
 use crate::reads::read;
 use crate::return_acts::return_from;
@@ -53,7 +54,7 @@ pub fn command_act(
         Command::Call { proc, site, .. } => mark_alone(alloc, state, MarkKind::Enter(*proc), *site),
         Command::Return { from } => return_from(alloc, state, job.body.result, *from),
         Command::Stop { word, .. } => stop(alloc, state, *word),
-        Command::Divide { .. } => unfollowed(state),
+        Command::Divide { to, a, b, site } => { divide(alloc, state, *to, *a, *b, *site, way) }
     }
 }
 

@@ -39,19 +39,6 @@ pub(crate) fn stop(alloc: Global, state: State, word: u32) -> Result<StepOutcome
     }
 }
 
-/// What no act says yet: the path isn't followed. As yet no way of such a command is listed, so nothing comes here; and
-/// beyond the last step that a path may have there is no state to give.
-#[tactic(auto, unfolding(crate::specs::Led::led_of))]
-pub(crate) fn unfollowed(mut state: State) -> Result<StepOutcome<State>, NoMemory>
-    ensures { IfOk result (λ r. r ≡ led_of state (states.unfollowed (begun state))) }
-{
-    if limit_passed(&state, &COMMAND).is_some() {
-        return Err(NoMemory);
-    }
-    begin(&mut state);
-    Ok(StepOutcome::Past(state))
-}
-
 /// A loop is entered.
 #[tactic(auto, unfolding(crate::specs::Led::led_of))]
 pub(crate) fn enter(

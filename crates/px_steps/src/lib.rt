@@ -10,6 +10,7 @@ mod block_acts;
 mod commands;
 mod control_acts;
 mod copies;
+mod divide_acts;
 mod input_acts;
 mod meetings;
 mod path_limits;

@@ -86,10 +86,14 @@ module _ (j : JobTree) (s : State) (c : Calling) (k : List Item) where
   case_nearer x σ rest used p way.Unwritten o s = omega arith
   case_nearer x σ rest used p (way.Entry n) o s = omega arith
   case_nearer x σ rest used p way.Drop o s = omega arith
+  case_nearer x σ rest used p way.ByZero o s = omega arith
+  case_nearer x σ rest used p way.Divided o s = omega arith
 
   choosing_nearer : (w : Way) → acts_to_end_of j (choosing_act j s c k w) ≤ acts_to_end j c choosing
   choosing_nearer (way.Entry n) = let h = chosen_nearer j s c (entry_in (callee_in j.callees c.proc) n) n refl in omega (arith, h)
   choosing_nearer way.Drop = omega arith
+  choosing_nearer way.ByZero = omega arith
+  choosing_nearer way.Divided = omega arith
   choosing_nearer way.Null = omega arith
   choosing_nearer way.MissingLive = omega arith
   choosing_nearer way.MissingFreed = omega arith

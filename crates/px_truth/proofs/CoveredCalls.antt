@@ -69,7 +69,7 @@ mutual
   frees_known names types break h = tt
   frees_known names types continue h = tt
   frees_known names types (stop word site) h = tt
-  frees_known names types (divide to a b site) h = h
+  frees_known names types (divide to a b site) h = tt
 
   free_known : (names : ℕ) (types : List BlockType) (cs : CommandTrees) → AreCommandsListed names (length types) cs → FreeKnown types cs
   free_known names types no_commands h = tt

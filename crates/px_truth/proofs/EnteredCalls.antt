@@ -190,6 +190,8 @@ module _ (j : JobTree) where
   choosing_fits : (s : State) (c : Calling) (k : List Item) (w : Way) → HasEntered c.proc s.trace → Fits (choosing_act j s c k w)
   choosing_fits s c k (way.Entry n) h = entry_fits s c k n (entry_in (callee_in j.callees c.proc) n) refl h
   choosing_fits s c k way.Drop h = tt
+  choosing_fits s c k way.ByZero h = tt
+  choosing_fits s c k way.Divided h = tt
   choosing_fits s c k way.Null h = tt
   choosing_fits s c k way.MissingLive h = tt
   choosing_fits s c k way.MissingFreed h = tt
@@ -243,6 +245,8 @@ module _ (j : JobTree) where
   case_is x σ rest used p way.Unwritten o s = (refl, tt)
   case_is x σ rest used p (way.Entry n) o s = (refl, tt)
   case_is x σ rest used p way.Drop o s = (refl, tt)
+  case_is x σ rest used p way.ByZero o s = (refl, tt)
+  case_is x σ rest used p way.Divided o s = (refl, tt)
 
   stage_on : (g : ProcId) (x : Entry) (s t : State) (n : ℕ) (stage : Stage) → HasEntered g s.trace → entry_in (callee_in j.callees g) n ≡ Some x → CaseOf x s t stage → FitsStage g t.trace stage
   stage_on g x s t n choosing h e c = absurd c.1

@@ -19,6 +19,7 @@ use Rattle.px_core.specs.CommandTree.{CommandTree, assign, unset, read, test, ch
 use Rattle.px_entry.specs.declared.atoms.Atom.{Atom}
 use Rattle.px_entry.specs.declared.atoms.AtomState.{AtomState}
 use Rattle.px_entry.specs.declared.atoms.AtomState.TheVariants.{Live, Freed}
+use Rattle.px_entry.specs.Decided.{word_of}
 use Rattle.px_callgraph.specs.declared.states.State.{State}
 use Rattle.px_callgraph.specs.declared.states.Way.{Way}
 use Rattle.px_callgraph.specs.declared.states.Way.TheVariants as way
@@ -26,7 +27,7 @@ use Rattle.px_callgraph.specs.JobTree.{JobTree}
 use Rattle.px_callgraph.specs.States.{on, content_at, operand_content, assumed}
 use Rattle.px_callgraph.specs.Operations.{operation, condition, contrary}
 use Rattle.px_callgraph.specs.Accesses.{Access, accessed, meet_live, meet_freed, load_access, store_access, free_access, use_state, use_atom, reach_atom, reach_missing, access_done}
-use Rattle.px_callgraph.specs.Commands.{read_cell, read_written, read_unwritten, read_done, test_outcome, test_done, last_loop, leaving, malloc_done, returned, return_done, through_place, assign_done, act_done}
+use Rattle.px_callgraph.specs.Commands.{read_cell, read_written, read_unwritten, read_done, test_outcome, test_done, last_loop, leaving, malloc_done, constant_quotient, quotient_by, words_divided, divide_done, returned, return_done, through_place, assign_done, act_done}
 
 abbrev pub IsPlain : MarkKind → Type 0
 IsPlain (Enter g) = ⊥
@@ -97,6 +98,8 @@ module _ (types : List BlockType) (block : TypeId) (a : Access) (g : MarksAll a)
   access_marks p way.Missing s = inl refl
   access_marks p (way.Entry n) s = inl refl
   access_marks p way.Drop s = inl refl
+  access_marks p way.ByZero s = inl refl
+  access_marks p way.Divided s = inl refl
 
   through_marks : (o : Option PlaceOf) (w : Way) (s : State) → Marks s.trace (through_place (on s) o (λ p. access_done types block a p w s)).state.trace
   through_marks None w s = inl refl
@@ -138,6 +141,8 @@ read_marks slot site c way.MissingFreed s = inl refl
 read_marks slot site c way.Missing s = inl refl
 read_marks slot site c (way.Entry n) s = inl refl
 read_marks slot site c way.Drop s = inl refl
+read_marks slot site c way.ByZero s = inl refl
+read_marks slot site c way.Divided s = inl refl
 
 outcome_trace : (to outcome : ℕ) (o : Option Conj) (s : State) → (test_outcome to outcome o s).state.trace ≡ s.trace
 outcome_trace to outcome None s = refl
@@ -157,6 +162,8 @@ test_marks to site o p way.MissingFreed s = inl refl
 test_marks to site o p way.Missing s = inl refl
 test_marks to site o p (way.Entry n) s = inl refl
 test_marks to site o p way.Drop s = inl refl
+test_marks to site o p way.ByZero s = inl refl
+test_marks to site o p way.Divided s = inl refl
 
 leaving_marks : (o : Option (Site × ℕ)) (s : State) → Marks s.trace (leaving o s).state.trace
 leaving_marks None s = inl refl
@@ -176,6 +183,39 @@ malloc_marks types to block site way.MissingFreed s = inl refl
 malloc_marks types to block site way.Missing s = inl refl
 malloc_marks types to block site (way.Entry n) s = inl refl
 malloc_marks types to block site way.Drop s = inl refl
+malloc_marks types to block site way.ByZero s = inl refl
+malloc_marks types to block site way.Divided s = inl refl
+
+-- a division has no mark
+quotient_trace : (to : ℕ) (p q : Polynomial) (o : Option Content) (s : State) → (quotient_by to p q o s).trace ≡ s.trace
+quotient_trace to p q None s = refl
+quotient_trace to p q (Some c) s = refl
+
+words_marks : (to : ℕ) (site : Site) (w : Way) (s : State) (p q : Polynomial) → Marks s.trace (words_divided to site w s p q).state.trace
+words_marks to site way.ByZero s p q = inl refl
+words_marks to site way.Divided s p q = inl (quotient_trace to p q (constant_quotient (word_of p) (word_of q)) (assumed (conjunct.Unequal q) s))
+words_marks to site way.On s p q = inl refl
+words_marks to site way.Then s p q = inl refl
+words_marks to site way.Else s p q = inl refl
+words_marks to site way.Null s p q = inl refl
+words_marks to site way.Made s p q = inl refl
+words_marks to site way.Written s p q = inl refl
+words_marks to site way.Unwritten s p q = inl refl
+words_marks to site (way.Atom n) s p q = inl refl
+words_marks to site way.MissingLive s p q = inl refl
+words_marks to site way.MissingFreed s p q = inl refl
+words_marks to site way.Missing s p q = inl refl
+words_marks to site (way.Entry n) s p q = inl refl
+words_marks to site way.Drop s p q = inl refl
+
+divide_marks : (to : ℕ) (site : Site) (a b : Content) (w : Way) (s : State) → Marks s.trace (divide_done to site a b w s).state.trace
+divide_marks to site (Word p) (Word q) w s = words_marks to site w s p q
+divide_marks to site (Word p) Unwritten w s = inl refl
+divide_marks to site (Word p) (Place b) w s = inl refl
+divide_marks to site (Word p) (Cell y) w s = inl refl
+divide_marks to site Unwritten b w s = inl refl
+divide_marks to site (Place a) b w s = inl refl
+divide_marks to site (Cell x) b w s = inl refl
 
 return_marks : (o : Option (Option Content)) (s : State) → Marks s.trace (return_done o s).state.trace
 return_marks None s = inl refl
@@ -206,4 +246,4 @@ act_marks j (return from) w s own = return_marks (returned s j.body.result from)
 act_marks j break w s own = inl refl
 act_marks j continue w s own = inl refl
 act_marks j (stop word site) w s own = inl refl
-act_marks j (divide to a b site) w s own = inl refl
+act_marks j (divide to a b site) w s own = divide_marks to site (operand_content s a) (operand_content s b) w s

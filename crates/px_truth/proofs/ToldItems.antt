@@ -21,7 +21,6 @@ use Rattle.px_bodies.specs.Statements.{typed_statements}
 use Rattle.px_bodies.specs.Functions.{allowed_result, before_body, typed_function, NumbersDontMatter}
 use Rattle.px_typing.specs.Keeping.{marked_after, first_word, word_of, Judged, judged, kept_tree, kept_trees}
 use Rattle.px_typing.specs.Programs.{function_name, site_of, kept_name, left_name, mentioned_name, mentions, seen_names, left_of, procedure_of, environment_in, program_of, program_of_judged}
-use Rattle.px_typing.specs.Mentions.{divides}
 use Rattle.px_programs.specs.Laws.{items_in, judged_items, environment_of_files, ProgramsHaveTheirNumbers}
 use Rattle.px_symexec.proofs.Lists.{IsIn, in_left, in_right}
 use Rattle.px_pieces.specs.declared.findings.Part.{Part}
@@ -57,11 +56,11 @@ typed_at env proc site result ps body =
 
 -- ---- words
 
-no_word : (a b d : Bool) (o : Option ProcedureTree) (u v w x : List ℕ) → first_word ((a, u) ∷ (b, v) ∷ (is_none o, w) ∷ (d, x) ∷ []) ≡ None → is_some o ≡ true
-no_word true b d o u v w x e = absurd cc
-no_word false true d o u v w x e = absurd cc
-no_word false false d None u v w x e = absurd cc
-no_word false false d (Some p) u v w x e = refl
+no_word : (a b : Bool) (o : Option ProcedureTree) (u v w : List ℕ) → first_word ((a, u) ∷ (b, v) ∷ (is_none o, w) ∷ []) ≡ None → is_some o ≡ true
+no_word true b o u v w e = absurd cc
+no_word false true o u v w e = absurd cc
+no_word false false None u v w e = absurd cc
+no_word false false (Some p) u v w e = refl
 
 -- each item is judged
 items_judged : (env : Environment) (before xs : List ParsedTree) → map (λ (j : Judged). j.item) (map (judged env) (marked_after before xs)) ≡ xs
@@ -137,7 +136,7 @@ module _ (numbers : ProgramsHaveTheirNumbers) (numbers_dont_matter : NumbersDont
       is_typed : (duplicate : Bool) → word_of bare duplicate the_function ≡ None → (p : ProcedureTree) × (typed_function env (proc_id env name) site result ps body ≡ Some p)
       is_typed duplicate e =
           let bare_typed = typed_function bare (record { 0 = 0 }) site result ps body in
-          let typed : is_some bare_typed ≡ true = no_word duplicate (nat_lt most_parameters (length ps)) (divides body) bare_typed (codes "duplicate") (codes "parameters") (codes "type") (codes "later") e in
+          let typed : is_some bare_typed ≡ true = no_word duplicate (nat_lt most_parameters (length ps)) bare_typed (codes "duplicate") (codes "parameters") (codes "type") e in
           some_from (typed_function env (proc_id env name) site result ps body)
           (numbers_dont_matter bare env.type_number env.proc_number (record { 0 = 0 }) (proc_id env name) site result ps body ∙ typed)
 

@@ -8,17 +8,17 @@ use Rattle.px_syntax.specs.declared.expression.Expression.{Expression}
 use Rattle.px_syntax.specs.declared.expression.Expression.TheVariants as V
 use Rattle.px_syntax.specs.ExpressionTree.{ExpressionTree, expressions_of, expression_tree, link_tree, chained, members, binary, member}
 use Rattle.px_syntax.proofs.ExpressionEquations.{tree-Binary, tree-Member, tree-Call}
-use Rattle.px_typing.specs.Mentions.{Mention, calls, of_operator, of_expression, of_expressions}
+use Rattle.px_typing.specs.Mentions.{Mention, calls, of_expression, of_expressions}
 
--- what the operands and operators of links mention
+-- what the operands of links mention
 abbrev pub of_links : List Link → List Mention
-of_links links = flat_map (λ l. of_expression (expression_tree l.operand) ++ of_operator l.operator) links
+of_links links = flat_map (λ l. of_expression (expression_tree l.operand)) links
 
 chained-mentions : (e : ExpressionTree) (links : List Link) → of_expression (chained e (map link_tree links)) ≡ of_expression e ++ of_links links
 chained-mentions e [] = sym (append-nil (of_expression e))
 chained-mentions e (l ∷ links) =
     chained-mentions (binary l.operator l.site e (expression_tree l.operand)) links
-    ∙ append_assoc (of_expression e) (of_expression (expression_tree l.operand) ++ of_operator l.operator) (of_links links)
+    ∙ append_assoc (of_expression e) (of_expression (expression_tree l.operand)) (of_links links)
 
 members-mentions : (e : ExpressionTree) (path : List Arrow) → of_expression (members e path) ≡ of_expression e
 members-mentions e [] = refl
@@ -26,11 +26,11 @@ members-mentions e (a ∷ path) = members-mentions (member e a.field a.site) pat
 
 -- what an expression with children of several kinds mentions
 pub mentions-Binary : (e : Expression) (first : Box Expression Global) (before : Vec Link Global) (o : BinaryOperator) (s : Site) (right : Box Expression Global) → e ≡ V.Binary first before o s right →
-    of_expression (expression_tree e) ≡ (of_expression (expression_tree first.value) ++ of_links before.items) ++ (of_expression (expression_tree right.value) ++ of_operator o)
+    of_expression (expression_tree e) ≡ (of_expression (expression_tree first.value) ++ of_links before.items) ++ of_expression (expression_tree right.value)
 mentions-Binary e first before o s right is =
     ap (λ x. of_expression (expression_tree x)) is
     ∙ (ap of_expression (tree-Binary first before o s right)
-    ∙ ap (λ ms. ms ++ (of_expression (expression_tree right.value) ++ of_operator o)) (chained-mentions (expression_tree first.value) before.items))
+    ∙ ap (λ ms. ms ++ of_expression (expression_tree right.value)) (chained-mentions (expression_tree first.value) before.items))
 
 pub mentions-Member : (e : Expression) (s : Site) (a : Box Expression Global) (before : Vec Arrow Global) (f : List ℕ) → e ≡ V.Member s a before f →
     of_expression (expression_tree e) ≡ of_expression (expression_tree a.value)

@@ -10,7 +10,6 @@ use Rattle.px_syntax.specs.ProgramTree.{ProcedureTree}
 use Rattle.px_bodies.specs.Environment.{Environment, fields_of}
 use Rattle.px_bodies.specs.Functions.{typed_function}
 use Rattle.px_typing.specs.Declarations.{Fields, first_of, fields_by, defined_by, are_typed_fields, is_typed_prototype}
-use Rattle.px_typing.specs.Mentions.{divides}
 
 -- whether an item defines what an item before it defines
 abbrev pub is_duplicate : List ParsedTree → ParsedTree → Bool
@@ -45,19 +44,18 @@ prototype_word result ps = first_word (
     (nat_lt most_parameters (length ps), codes "parameters")
     ∷ (not (is_typed_prototype result ps), codes "type") ∷ [])
 
-abbrev pub function_word : Bool → List Parameter → Option ProcedureTree → Bool → Option (List ℕ)
-function_word duplicate ps typed divided = first_word (
+abbrev pub function_word : Bool → List Parameter → Option ProcedureTree → Option (List ℕ)
+function_word duplicate ps typed = first_word (
     (duplicate, codes "duplicate")
     ∷ (nat_lt most_parameters (length ps), codes "parameters")
-    ∷ (is_none typed, codes "type")
-    ∷ (divided, codes "later") ∷ [])
+    ∷ (is_none typed, codes "type") ∷ [])
 
 -- the word of an item with a tree; whether a function is typed doesn't depend on its number
 abbrev pub word_of_tree : Environment → Bool → ItemTree → Option (List ℕ)
 word_of_tree env duplicate (struct site tag ds) = struct_word duplicate (fields_of ds)
 word_of_tree env duplicate (declared site tag) = None
 word_of_tree env duplicate (prototype site result name ps) = prototype_word result ps
-word_of_tree env duplicate (function site result name ps body) = function_word duplicate ps (typed_function env (record { 0 = 0 }) site result ps body) (divides body)
+word_of_tree env duplicate (function site result name ps body) = function_word duplicate ps (typed_function env (record { 0 = 0 }) site result ps body)
 
 abbrev pub word_of : Environment → Bool → ParsedTree → Option (List ℕ)
 word_of env duplicate (parsed item) = word_of_tree env duplicate item

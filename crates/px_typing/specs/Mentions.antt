@@ -1,14 +1,11 @@
 -- The functions and the blocks that an item names, in the order of their places.
-use Rattle.std.specs.Prelude.{ℕ, zero, suc, Bool, true, false, ◌+◌, List, [], ◌∷◌, ◌++◌, map, flat_map, Option, None, Some}
-use Rattle.std.specs.List.{list_any}
+use Rattle.std.specs.Prelude.{ℕ, zero, suc, ◌+◌, List, [], ◌∷◌, ◌++◌, map, flat_map, Option, None, Some}
 use Rattle.px_syntax.specs.declared.type_name.Base.{Base}
 use Rattle.px_syntax.specs.declared.type_name.Base.TheVariants.{Int, Struct}
 use Rattle.px_syntax.specs.declared.type_name.TypeName.{TypeName}
 use Rattle.px_syntax.specs.declared.item.Parameter.{Parameter}
 use Rattle.px_syntax.specs.declared.item.ResultType.{ResultType}
 use Rattle.px_syntax.specs.declared.item.ResultType.TheVariants.{Void, Value}
-use Rattle.px_syntax.specs.declared.expression.BinaryOperator.{BinaryOperator}
-use Rattle.px_syntax.specs.declared.expression.BinaryOperator.TheVariants as O
 use Rattle.px_syntax.specs.ExpressionTree as E
 use Rattle.px_syntax.specs.StatementTree as S
 use Rattle.px_syntax.specs.ItemTree.{ItemTree, struct, declared, prototype, function}
@@ -21,8 +18,6 @@ pub data Mention : Type 0 where
   declares : List ℕ → Mention
   -- the blocks of a base after fewer stars than these
   blocks : Base → ℕ → Mention
-  -- a division, which isn't analysed yet: a function that has one is left out
-  a_division : Mention
 
 -- a type names its base after each smaller number of stars, its own blocks come in by `sizeof` alone
 abbrev pub of_type : TypeName → List Mention
@@ -35,29 +30,13 @@ abbrev pub of_option : {A : Type 0} → (A → List Mention) → Option A → Li
 of_option of None = []
 of_option of (Some x) = of x
 
--- a quotient or a remainder
-abbrev pub of_operator : BinaryOperator → List Mention
-of_operator O.Divide = a_division ∷ []
-of_operator O.Remainder = a_division ∷ []
-of_operator O.Multiply = []
-of_operator O.Add = []
-of_operator O.Subtract = []
-of_operator O.Less = []
-of_operator O.LessEqual = []
-of_operator O.Greater = []
-of_operator O.GreaterEqual = []
-of_operator O.Equal = []
-of_operator O.NotEqual = []
-of_operator O.And = []
-of_operator O.Or = []
-
 abbrev mutual
   pub of_expression : E.ExpressionTree → List Mention
   of_expression (E.constant value site) = []
   of_expression (E.null site) = []
   of_expression (E.variable name site) = []
   of_expression (E.unary operator site a) = of_expression a
-  of_expression (E.binary operator site a b) = of_expression a ++ (of_expression b ++ of_operator operator)
+  of_expression (E.binary operator site a b) = of_expression a ++ of_expression b
   of_expression (E.member a field site) = of_expression a
   of_expression (E.call name site arguments) = calls name ∷ of_expressions arguments
   of_expression (E.free site a) = of_expression a
@@ -118,13 +97,3 @@ of_item (struct site tag ds) = blocks (Struct tag) 1 ∷ flat_map (λ f. of_type
 of_item (declared site tag) = []
 of_item (prototype site result name ps) = of_result result ++ (declares name ∷ of_parameters ps)
 of_item (function site result name ps body) = of_result result ++ (of_parameters ps ++ of_statements (S.statements_of body))
-
-abbrev pub is_division : Mention → Bool
-is_division (calls name) = false
-is_division (declares name) = false
-is_division (blocks base stars) = false
-is_division a_division = true
-
--- whether there is a division in a function's body
-abbrev pub divides : List S.StatementTree → Bool
-divides body = list_any is_division (of_statements (S.statements_of body))

@@ -24,7 +24,7 @@ use Rattle.px_bodies.specs.Functions.{typed_function}
 use Rattle.px_typing.specs.Declarations.{Fields, fields_in, signature_in}
 use Rattle.px_typing.specs.Sights.{first_sights, number_in}
 use Rattle.px_typing.specs.Keeping.{Judged, marked_after, judged, kept_trees}
-use Rattle.px_typing.specs.Mentions.{Mention, calls, declares, blocks, a_division, of_item}
+use Rattle.px_typing.specs.Mentions.{Mention, calls, declares, blocks, of_item}
 
 -- a function's name, where an item is function-shaped and has one
 abbrev pub function_name : ParsedTree → Option (List ℕ)
@@ -51,7 +51,6 @@ abbrev pub mentioned_name : Mention → Option (List ℕ)
 mentioned_name (calls name) = Some name
 mentioned_name (declares name) = Some name
 mentioned_name (blocks base stars) = None
-mentioned_name a_division = None
 
 -- the kept items' mentions
 abbrev pub mentions : List Judged → List Mention

@@ -1,4 +1,4 @@
-ghost use Rattle.std.specs.Prelude.{◌≡◌, map, option_map, Some, None, codes, if◌then◌else◌, IfOk};
+ghost use Rattle.std.specs.Prelude.{◌≡◌, map, option_map, IfOk};
 ghost use Rattle.px_syntax.specs.StatementTree.{statement_tree};
 ghost use Rattle.px_syntax.specs.ItemTree.{item_tree};
 ghost use Rattle.px_syntax.specs.ParsedTree.{parsed_tree};
@@ -6,12 +6,9 @@ ghost use Rattle.px_bodies.specs.Environment.{environment_of, fields_of};
 ghost use Rattle.px_bodies.specs.Functions as rules;
 ghost use Rattle.px_typing.specs.Keeping as keeping;
 ghost use Rattle.px_typing.specs.ItemViews.{marked_of, judged_of};
-ghost use Rattle.px_typing.specs.Mentions.{divides};
 
 use crate::marked::{JudgedItem, MarkedItem};
-use crate::mention::Mentions;
 use crate::shapes::{are_many, have_types, is_prototype};
-use crate::walk::statements_mentions;
 use px_base::{MOST_PARAMETERS, ProcId, Site};
 use px_bodies::{Environment, typed_function};
 use px_syntax::{FieldDeclaration, Item, Parameter, ParsedItem, ResultType, Statement};
@@ -57,19 +54,6 @@ fn prototype_word<'a>(
     }
 }
 
-// The word of a body that isn't analysed yet.
-fn later_word<'a>(alloc: Global, body: &'a [Statement]) -> Result<Option<&'a [u8]>, NoMemory>
-    ensures { IfOk result (λ w. option_map (λ x. x.now) w ≡ (if divides (map statement_tree body.entry.now) then Some (codes "later") else None)) }
-{
-    let mut mentions = Mentions::new(alloc);
-    statements_mentions(body, &mut mentions)?;
-    if mentions.divide() {
-        Ok(Some(b"later".as_slice()))
-    } else {
-        Ok(None)
-    }
-}
-
 // The word of a function's definition, if it is left out.
 fn function_word<'a>(
     alloc: Global,
@@ -80,7 +64,7 @@ fn function_word<'a>(
     parameters: &'a [Parameter],
     body: &'a [Statement],
 ) -> Result<Option<&'a [u8]>, NoMemory>
-    ensures { IfOk result (λ w. option_map (λ x. x.now) w ≡ keeping.function_word duplicate parameters.entry.now (rules.typed_function (environment_of environment.now) (record { 0 = 0 }) site returns.entry.now parameters.entry.now (map statement_tree body.entry.now)) (divides (map statement_tree body.entry.now))) }
+    ensures { IfOk result (λ w. option_map (λ x. x.now) w ≡ keeping.function_word duplicate parameters.entry.now (rules.typed_function (environment_of environment.now) (record { 0 = 0 }) site returns.entry.now parameters.entry.now (map statement_tree body.entry.now))) }
 {
     if duplicate {
         return Ok(Some(b"duplicate".as_slice()));
@@ -97,7 +81,7 @@ fn function_word<'a>(
         parameters,
         body,
     )? {
-        Some(_) => later_word(alloc, body),
+        Some(_) => Ok(None),
         None => Ok(Some(b"type".as_slice())),
     }
 }

@@ -1,7 +1,4 @@
 ghost use Rattle.std.specs.Prelude.{◌≡◌, [], ◌∷◌, ◌++◌, map, OnOk};
-ghost use Rattle.std.specs.List.{list_any};
-ghost use Rattle.px_typing.specs.Mentions.{is_division};
-ghost use Rattle.px_typing.specs.MentionViews.{mention_of};
 
 use px_syntax::{Base, Name};
 use px_terms::NoMemory;
@@ -21,8 +18,6 @@ pub enum Mentioned<'a> {
     Sized(&'a Base, u32),
     /// The blocks of a struct that is defined.
     Defines(&'a Name),
-    /// A division: `/` or `%`.
-    Divides,
 }
 
 /// What items name, in the order of the places.
@@ -42,6 +37,8 @@ impl<'a> Model for Mentions<'a> {
 }
 
 impl<'a> Mentions<'a> {
+    ghost use Rattle.px_typing.specs.MentionViews.{mention_of};
+
     /// None. Takes no memory.
     pub fn new(alloc: Global) -> Mentions<'a>
         ensures { result ≡ [] }
@@ -59,42 +56,10 @@ impl<'a> Mentions<'a> {
         Ok(())
     }
 
-    /// Whether there is a division among them. Takes no memory.
-    pub fn divide(&self) -> bool
-        ensures { result ≡ list_any is_division self.now }
-    {
-        has_division(self.as_slice())
-    }
-
     /// All of them. Takes no memory.
     pub fn as_slice(&self) -> &[Mentioned<'a>]
         ensures { map mention_of result.now ≡ self.now }
     {
         &self.all
-    }
-}
-
-// Whether one of these is a division.
-fn has_division(all: &[Mentioned]) -> bool
-    ensures { result ≡ list_any is_division (map mention_of all.now) }
-{
-    for mentioned in all {
-        if divides(*mentioned) {
-            return true;
-        }
-    }
-    false
-}
-
-fn divides(mentioned: Mentioned) -> bool
-    ensures { result ≡ is_division (mention_of mentioned.entry) }
-{
-    match mentioned {
-        Mentioned::Divides => true,
-        Mentioned::Calls(_)
-        | Mentioned::Declares(_)
-        | Mentioned::Named(_, _)
-        | Mentioned::Sized(_, _)
-        | Mentioned::Defines(_) => false,
     }
 }

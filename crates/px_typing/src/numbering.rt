@@ -111,7 +111,6 @@ impl<'a> Numbering<'a> {
                 self.see_type(CType::new(base, stars))
             }
             Mentioned::Defines(tag) => self.see_type(CType::tagged(tag)),
-            Mentioned::Divides => Ok(()),
         }
     }
 

@@ -1,12 +1,12 @@
 ghost use Rattle.std.specs.Prelude.{◌≡◌, ◌++◌, map, flat_map, option_map, OnOk};
 ghost use Rattle.px_syntax.specs.ExpressionTree.{expression_tree, expressions_of};
 ghost use Rattle.px_syntax.specs.StatementTree.{statement_tree, statements_of, declaration_tree, init_tree, simple_tree, first_tree};
-ghost use Rattle.px_typing.specs.Mentions.{of_type, of_size, of_operator, of_expression, of_expressions, of_declaration, of_declarators, of_simple, of_first, of_statement, of_statements, of_option};
+ghost use Rattle.px_typing.specs.Mentions.{of_type, of_size, of_expression, of_expressions, of_declaration, of_declarators, of_simple, of_first, of_statement, of_statements, of_option};
 
 use crate::mention::{Mentioned, Mentions};
 use px_syntax::{
-    Base, BinaryOperator, Declaration, Expression, FirstClause, InitDeclarator, Link,
-    SimpleStatement, Statement, TypeName,
+    Base, Declaration, Expression, FirstClause, InitDeclarator, Link, SimpleStatement, Statement,
+    TypeName,
 };
 use px_terms::NoMemory;
 
@@ -24,26 +24,6 @@ fn size_mentions<'a>(out: &mut Mentions<'a>, named: &'a TypeName) -> Result<(), 
     out.push(Mentioned::Sized(&named.base, named.stars))
 }
 
-// What an operator between operands names.
-fn operator_mentions<'a>(operator: BinaryOperator, out: &mut Mentions<'a>) -> Result<(), NoMemory>
-    ensures { OnOk result (out.new ≡ out.old ++ of_operator operator) }
-{
-    match operator {
-        BinaryOperator::Divide | BinaryOperator::Remainder => out.push(Mentioned::Divides),
-        BinaryOperator::Multiply
-        | BinaryOperator::Add
-        | BinaryOperator::Subtract
-        | BinaryOperator::Less
-        | BinaryOperator::LessEqual
-        | BinaryOperator::Greater
-        | BinaryOperator::GreaterEqual
-        | BinaryOperator::Equal
-        | BinaryOperator::NotEqual
-        | BinaryOperator::And
-        | BinaryOperator::Or => Ok(()),
-    }
-}
-
 #[cycle(expressions)]
 #[tactic(auto, using(px_syntax::proofs::ExpressionEquations::trees))]
 fn expression_mentions<'a>(
@@ -57,14 +37,12 @@ fn expression_mentions<'a>(
         Expression::Binary {
             first,
             before,
-            operator,
             right,
             ..
         } => {
             expression_mentions(first, out)?;
             links_mentions(before, out)?;
-            expression_mentions(right, out)?;
-            operator_mentions(*operator, out)
+            expression_mentions(right, out)
         }
         Expression::Member { pointer, .. } => expression_mentions(pointer, out),
         Expression::Call {
@@ -89,14 +67,13 @@ fn expression_mentions<'a>(
     }
 }
 
-// What the operators of a chain and the operands after the first one name.
+// What the operands after the first one of a chain name.
 #[cycle(expressions)]
 fn links_mentions<'a>(links: &'a [Link], out: &mut Mentions<'a>) -> Result<(), NoMemory>
-    ensures { OnOk result (out.new ≡ out.old ++ flat_map (λ l. of_expression (expression_tree l.operand) ++ of_operator l.operator) links.entry.now) }
+    ensures { OnOk result (out.new ≡ out.old ++ flat_map (λ l. of_expression (expression_tree l.operand)) links.entry.now) }
 {
     for link in links {
         expression_mentions(&link.operand, out)?;
-        operator_mentions(link.operator, out)?;
     }
     Ok(())
 }

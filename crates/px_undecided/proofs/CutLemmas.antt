@@ -87,6 +87,8 @@ choosing_other j s c k way.MissingLive = drop_other c.proc (callee_in j.callees 
 choosing_other j s c k way.MissingFreed = drop_other c.proc (callee_in j.callees c.proc)
 choosing_other j s c k way.Missing = drop_other c.proc (callee_in j.callees c.proc)
 choosing_other j s c k way.Drop = drop_other c.proc (callee_in j.callees c.proc)
+choosing_other j s c k way.ByZero = drop_other c.proc (callee_in j.callees c.proc)
+choosing_other j s c k way.Divided = drop_other c.proc (callee_in j.callees c.proc)
 
 taking_other : (s : State) (c : Calling) (k : List Item) (t : Taken) → CutsOther (taking s c k t)
 taking_other s c k t = leads_other s (on t.state) (λ u. going_on c k u t.stage)

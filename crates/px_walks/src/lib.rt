@@ -1,5 +1,5 @@
 //! Paths through the body of a job, step by step: where a path stands, the call that is going on, what is listed there,
-//! and where each way leads. For every body, `start`, `ways` and `act` are exactly the definitions, and no command is
+//! and where each way leads. For every body, `start`, `ways`, `is_listed` and `act` are exactly the definitions, and no command is
 //! ever copied.
 #![tactic(auto)]
 
@@ -18,4 +18,6 @@ pub use control::Upcoming;
 pub use pieces::{OpenLoop, Part, Piece};
 pub use rules::{freed_rule, is_silent, live_rule};
 pub use walk::Walk;
-pub use walking::{act, act_command, choice_way, copy_walk, is_calling, next_item, ways};
+pub use walking::{
+    act, act_command, choice_way, copy_walk, is_calling, is_listed, next_item, ways,
+};

@@ -1,4 +1,4 @@
-ghost use Rattle.std.specs.Prelude.{◌≡◌, ◌∷◌, ◌<◌, ◌^◌, is_some, length, List, IfOk, option_map};
+ghost use Rattle.std.specs.Prelude.{◌≡◌, [], ◌∷◌, ◌<◌, ◌^◌, is_some, length, List, IfOk, option_map};
 ghost use Rattle.px_core.specs.CommandTree.{command_tree};
 ghost use Rattle.px_core.specs.Control.{Item, Act, AfterHead, acts};
 ghost use Rattle.px_callgraph.specs.JobTree.{job_tree};
@@ -7,6 +7,8 @@ ghost use Rattle.px_callgraph.specs.Alternatives as spec;
 ghost use Rattle.px_callgraph.specs.Alternatives.{at, fallen, item_act};
 ghost use Rattle.px_callgraph.specs.Outcomes.{map_next};
 ghost use Rattle.px_callgraph.specs.Derivations as derivations;
+ghost use Rattle.px_callgraph.specs.declared.states.Way.TheVariants as variant;
+ghost use Rattle.px_ways.specs.Listed.{lists};
 ghost use Rattle.px_calls.specs.Calls.{call_of, called, with_call, IsFewCalled};
 ghost use Rattle.px_steps.specs.Led.{IsFew};
 ghost use Rattle.px_walks.specs.Items.{turns_of, part_of, end_of, items_of};
@@ -17,7 +19,7 @@ use crate::after::{go_after, is_in_place};
 use crate::control::{Upcoming, next, put_part, take_next};
 use crate::{OpenLoop, Part, Piece, Walk};
 use px_callgraph::{Job, State, StepOutcome, Way};
-use px_calls::{Call, CallProgress, call_act, call_ways, enter, stage_way};
+use px_calls::{Call, CallProgress, call_act, call_ways, enter, is_call_way, stage_way};
 use px_core::Command;
 use px_entry::Exit;
 use px_steps::{command_act, copy_state, iteration_act};
@@ -100,6 +102,42 @@ pub fn ways(alloc: Global, job: &Job, walk: &Walk) -> Result<Vec<Way>, NoMemory>
     match &walk.call {
         None => control_ways(alloc, job, &walk.state, &walk.control),
         Some(call) => call_ways(alloc, job, &walk.state, call),
+    }
+}
+
+// Whether a way is listed of what is to be done next.
+fn is_item_way<'a>(
+    alloc: Global,
+    job: &Job,
+    state: &State,
+    control: &[Piece<'a>],
+    way: Way,
+) -> Result<bool, NoMemory>
+    ensures { IfOk result (λ yes. yes ≡ lists (spec.item_ways (job_tree job.now) state.now (items_of control.now)) way) }
+{
+    let Upcoming::Command(command) = next(control) else {
+        return Ok(is_on(way));
+    };
+    if !is_in_place(command, control) {
+        return Ok(false);
+    }
+    px_ways::is_listed(alloc, job, state, command, way)
+}
+
+fn is_on(way: Way) -> bool
+    ensures { result ≡ lists (variant.On ∷ []) way }
+{
+    matches!(way, Way::On)
+}
+
+/// Whether a way is listed where a path stands. The others aren't looked at, and no list is made.
+#[tactic(auto, unfolding(px_callgraph::specs::Alternatives::ways))]
+pub fn is_listed(alloc: Global, job: &Job, walk: &Walk, way: Way) -> Result<bool, NoMemory>
+    ensures { IfOk result (λ yes. yes ≡ lists (spec.ways (job_tree job.now) (walk_of walk.now)) way) }
+{
+    match &walk.call {
+        None => is_item_way(alloc, job, &walk.state, &walk.control, way),
+        Some(call) => is_call_way(alloc, job, &walk.state, call, way),
     }
 }
 

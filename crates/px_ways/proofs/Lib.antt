@@ -3,3 +3,5 @@ pub mod LoopLemmas
 pub mod AtomLemmas
 pub mod BlockLemmas
 pub mod Additions
+pub mod DivisionLemmas
+pub mod ListedLemmas

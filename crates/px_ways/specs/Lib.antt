@@ -1,3 +1,4 @@
 pub mod Ways
+pub mod Listed
 pub mod Atoms
 pub mod Additions

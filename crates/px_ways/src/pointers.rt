@@ -96,7 +96,7 @@ fn put_atoms(
 }
 
 // Whether an atom is of a block type, and may be at a place.
-fn may_be_block(vars: &[VarInfo], block: TypeId, place: Place, atom: &Atom) -> bool
+pub(crate) fn may_be_block(vars: &[VarInfo], block: TypeId, place: Place, atom: &Atom) -> bool
     ensures { result ≡ (nat_eq atom.now.block.0 block.0 && cases.may_be_at vars.now place atom.now) }
 {
     atom.block.0 == block.0 && may_be_same(vars, place, Place::Var(atom.place))

@@ -18,6 +18,7 @@ ghost use Rattle.px_match.specs.Operated.{IsCompared};
 ghost use Rattle.px_ways.specs.Ways.{or_unwritten, test_listed};
 
 use crate::contents::{is_word, is_written, operand_fits, slot_content};
+use crate::divisions::divide_ways;
 use crate::meetings::cells_of;
 use crate::pointers::{access_ways, accessed, put_way};
 use px_base::FieldId;
@@ -83,7 +84,7 @@ pub fn command_ways(
         Command::Call { arguments, .. } => on_if(alloc, are_arguments(state, arguments)),
         Command::Return { from } => on_if(alloc, returns(state, job.body.result, *from)),
         Command::Stop { .. } => drop_alone(alloc),
-        Command::Divide { .. } => Ok(Vec::new(alloc)),
+        Command::Divide { a, b, .. } => divide_ways(alloc, state, a, b),
     }
 }
 
@@ -119,7 +120,7 @@ fn both(alloc: Global, first: Way, second: Way) -> Result<Vec<Way>, NoMemory>
 
 // Whether the contents are of the operator's kind. No polynomial is made for that.
 #[tactic(auto, using(crate::proofs::ContentLemmas::words_make))]
-fn is_operation(state: &State, op: Operator, a: Operand, b: Operand) -> bool
+pub(crate) fn is_operation(state: &State, op: Operator, a: Operand, b: Operand) -> bool
     ensures { result ≡ is_some (operations.operation op (operand_content state.now a) (operand_content state.now b)) }
 {
     match op {
@@ -163,7 +164,7 @@ fn outcome_ways(
     Ok(found)
 }
 
-fn may_be_true(
+pub(crate) fn may_be_true(
     alloc: Global,
     vars: &[VarInfo],
     how: Comparison,
@@ -176,7 +177,7 @@ fn may_be_true(
     Ok(may_hold(vars, &assumed))
 }
 
-fn may_be_false(
+pub(crate) fn may_be_false(
     alloc: Global,
     vars: &[VarInfo],
     how: Comparison,
@@ -216,7 +217,7 @@ fn read_ways(
 }
 
 // The outcome of a test, where it is 1 or 0.
-fn has_outcome(content: Option<&Content>) -> bool
+pub(crate) fn has_outcome(content: Option<&Content>) -> bool
     ensures { result ≡ is_some (spec.outcome_of (or_unwritten (option_copied content.entry))) }
 {
     match content {
@@ -227,7 +228,7 @@ fn has_outcome(content: Option<&Content>) -> bool
 
 // Whether a loop is open.
 #[tactic(auto, using(crate::proofs::ContentLemmas::loop_or_none))]
-fn is_in_loop(state: &State) -> bool
+pub(crate) fn is_in_loop(state: &State) -> bool
     ensures { result ≡ is_some (spec.last_loop state.now.loops) }
 {
     !state.loops.is_empty()
@@ -243,7 +244,7 @@ fn malloc_ways(alloc: Global, types: &[BlockType], block: TypeId) -> Result<Vec<
     }
 }
 
-fn is_type(types: &[BlockType], block: TypeId) -> bool
+pub(crate) fn is_type(types: &[BlockType], block: TypeId) -> bool
     ensures { result ≡ is_some (slice_get types.now block.0) }
 {
     types.get(block.0 as usize).is_some()
@@ -256,14 +257,14 @@ fn field_type(types: &[BlockType], block: TypeId, field: FieldId) -> Option<Valu
     cells_of(types, block).get(field.0 as usize).copied()
 }
 
-fn is_field(types: &[BlockType], block: TypeId, field: FieldId) -> bool
+pub(crate) fn is_field(types: &[BlockType], block: TypeId, field: FieldId) -> bool
     ensures { result ≡ is_some (slice_get (block_cells types.now block) field.0) }
 {
     field_type(types, block, field).is_some()
 }
 
 // Whether there is such a cell, and an operand may stand in it.
-fn fits_field(
+pub(crate) fn fits_field(
     types: &[BlockType],
     state: &State,
     block: TypeId,
@@ -313,7 +314,7 @@ fn place_ways(
 
 // Whether each argument is a word or a place.
 #[tactic(auto, using(crate::proofs::ContentLemmas::all_images))]
-fn are_arguments(state: &State, arguments: &[Operand]) -> bool
+pub(crate) fn are_arguments(state: &State, arguments: &[Operand]) -> bool
     ensures { result ≡ list_all spec.is_argument (spec.argument_contents state.now arguments.now) }
 {
     are_written(state, arguments)
@@ -326,7 +327,7 @@ fn are_written(state: &State, operands: &[Operand]) -> bool
 }
 
 // Whether a procedure with such a result returns so.
-fn returns(state: &State, result_type: Option<ValueType>, from: Option<Operand>) -> bool
+pub(crate) fn returns(state: &State, result_type: Option<ValueType>, from: Option<Operand>) -> bool
     ensures { result ≡ is_some (spec.returned state.now result_type from) }
 {
     match (result_type, from) {

@@ -149,6 +149,8 @@ fn rule(word: &str) -> Result<Rule> {
     Ok(match word {
         "Assign" => Rule::Assign,
         "Call" => Rule::Call,
+        "Divide" => Rule::Divide,
+        "DivideZero" => Rule::DivideZero,
         "Free" => Rule::Free,
         "FreeTwice" => Rule::FreeTwice,
         "Load" => Rule::Load,

@@ -143,6 +143,8 @@ fn way(word: &str) -> Result<Way> {
         "freed" => Ok(Way::MissingFreed),
         "missing" => Ok(Way::Missing),
         "drop" => Ok(Way::Drop),
+        "zero" => Ok(Way::ByZero),
+        "divided" => Ok(Way::Divided),
         _ => Ok(Way::Atom(word.parse()?)),
     }
 }

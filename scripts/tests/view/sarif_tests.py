@@ -89,7 +89,7 @@ def sarif_of_every_kind_and_cause():
     same(ids, ["null-dereference", "use-after-free", "double-free", "uninitialised-read", "division-by-zero", "lost-block"])
     same([result["ruleIndex"] for result in run["results"]], [0, 1, 2, 3, 3, 4, 5])
     said = run["invocations"][0]["toolExecutionNotifications"]
-    same([one["descriptor"]["id"] for one in said], ["left-out"] * 18 + ["dropped-paths"] * 16 + ["source"])
+    same([one["descriptor"]["id"] for one in said], ["left-out"] * 17 + ["dropped-paths"] * 16 + ["source"])
     same(said[-1]["message"]["text"], "every.c has no column 2 in line 11: it was changed since the report")
     # a local that is read leaves no mark, and its path is the error alone
     steps = seen_result(run["results"][4])[4]

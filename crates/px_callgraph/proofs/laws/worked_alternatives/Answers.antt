@@ -1,4 +1,5 @@
 use Rattle.std.proofs.Common.{refl}
+use Rattle.std.specs.Int.{int_wrap}
 use Rattle.px_callgraph.specs.Alternatives.{ways, act, alternatives}
 use Rattle.px_callgraph.proofs.laws.worked_alternatives.Goals as goal
 
@@ -39,6 +40,22 @@ returns-clause-limits c = record {
   long_conjunct = refl;
   long_product = refl;
   stop_too_far = refl;
+}
+
+pub returns-clause-divisions : goal.returns-clause-divisions
+unfolding ways act alternatives int_wrap
+returns-clause-divisions c = record {
+  by_variable = refl;
+  stands = refl;
+  of_variable = refl;
+  never = refl;
+  constant_by_zero = refl;
+  constants = refl;
+  least = refl;
+  not_words = refl;
+  unwritten = refl;
+  conjunct_too_many = refl;
+  steps = refl;
 }
 
 pub returns-clause-blocks : goal.returns-clause-blocks

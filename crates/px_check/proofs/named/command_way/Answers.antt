@@ -1,6 +1,6 @@
 use Rattle.std.proofs.Common.{◌≡◌, ap, map, subst, sym, ◌∙◌}
 use Rattle.px_core.specs.CommandTree.{commands_of, command_tree}
-use Rattle.px_core.proofs.CommandEquations.{tree-Assign, tree-Unset, tree-If, tree-Break, tree-Continue, tree-Read, tree-Test, tree-Leave, tree-Malloc, tree-Free, tree-Input}
+use Rattle.px_core.proofs.CommandEquations.{tree-Assign, tree-Unset, tree-If, tree-Break, tree-Continue, tree-Read, tree-Test, tree-Leave, tree-Malloc, tree-Free, tree-Input, tree-Divide}
 use Rattle.px_callgraph.specs.Derivations.{command_way}
 use Rattle.px_check.proofs.named.command_way.Goals as goal
 
@@ -36,3 +36,6 @@ returns-in-Free c = subst (λ t. c.free_way.result ≡ command_way c.args.atoms.
 
 pub returns-in-Input : goal.returns-in-Input
 returns-in-Input c = subst (λ t. c.input_way.result ≡ command_way c.args.atoms.now t c.args.rule c.args.choices.now) (sym (ap command_tree c.in-Input.is ∙ tree-Input c.in-Input.to c.in-Input.site)) (c.input_way.ensures c.args.atoms.now c.in-Input.to c.in-Input.site)
+
+pub returns-in-Divide : goal.returns-in-Divide
+returns-in-Divide c = subst (λ t. c.divide_way.result ≡ command_way c.args.atoms.now t c.args.rule c.args.choices.now) (sym (ap command_tree c.in-Divide.is ∙ tree-Divide c.in-Divide.to c.in-Divide.a c.in-Divide.b c.in-Divide.site)) (c.divide_way.ensures c.args.atoms.now c.in-Divide.to c.in-Divide.a c.in-Divide.b c.in-Divide.site)

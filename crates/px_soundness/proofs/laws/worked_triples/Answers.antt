@@ -1,4 +1,6 @@
-use Rattle.std.proofs.Common.{◌≡◌, ℕ, zero, suc, Some, List, [], ◌∷◌, inl, inr, refl, sym, subst}
+use Rattle.std.proofs.Common.{rules, ◌≡◌, ℕ, zero, suc, pos, Some, List, [], ◌∷◌, inl, inr, refl, sym, subst}
+use Rattle.std.specs.Prelude.{FitsSigned}
+use Rattle.std.specs.Int.{w32}
 use Rattle.std.proofs.lemmas.Option.{same_Some}
 use Rattle.px_core.specs.Constants.{HasConstantsInRange}
 use Rattle.px_entry.specs.declared.entries.Entry.{Entry}
@@ -12,7 +14,7 @@ use Rattle.px_callgraph.specs.WorkedDerivations.{a_step, alone}
 use Rattle.px_callgraph.specs.WorkedPaths.{two_frees}
 use Rattle.px_callgraph.specs.Callees.{NamedIn}
 use Rattle.px_soundness.specs.Laws.{IsEntryOf, HasTrueTables}
-use Rattle.px_soundness.specs.WorkedTriples.{freed_twice, calls_it, program}
+use Rattle.px_soundness.specs.WorkedTriples.{freed_twice, calls_it, program, ten_over, divides}
 use Rattle.px_soundness.proofs.AtomHeaps.{absent}
 use Rattle.px_soundness.proofs.Entries.{course_sound}
 use Rattle.px_soundness.proofs.Valid.{P}
@@ -68,6 +70,27 @@ true_tables f n x named is =
 abbrev call_steps : List Step
 call_steps = alone rule.ReadWritten ∷ a_step rule.Call (0 ∷ 0 ∷ []) ∷ alone rule.End ∷ []
 
+ten_fits : FitsSigned w32 (pos 10)
+ten_fits = search rules
+
+in_range_over : HasConstantsInRange ten_over.body
+in_range_over = (tt, ((ten_fits, tt), (tt, tt)))
+
+calls_nobody : (f : ℕ) → NamedIn f ten_over.body.commands → ⊥
+calls_nobody f (inl h) = h
+calls_nobody f (inr (inl h)) = h
+calls_nobody f (inr (inr (inl h))) = h
+calls_nobody f (inr (inr (inr h))) = h
+
+no_tables : HasTrueTables (P divides.bodies ten_over) ten_over
+no_tables f n x named is = absurd (calls_nobody f.0 named)
+
+abbrev over_zero_steps : List Step
+over_zero_steps = alone rule.ReadWritten ∷ alone rule.DivideZero ∷ alone rule.End ∷ []
+
+abbrev over_other_steps : List Step
+over_other_steps = alone rule.ReadWritten ∷ alone rule.Divide ∷ alone rule.End ∷ []
+
 pub returns : goal.returns
 unfolding ways act
 returns c = record {
@@ -76,4 +99,6 @@ returns c = record {
   freed_before = (course_sound program.bodies two_frees in_range refl tables freed_steps 3 _ _ _ _ (20, refl)).valid;
   lost = lost_block;
   called = (course_sound program.bodies calls_it in_range_too refl true_tables call_steps 2 _ _ _ _ (20, refl)).valid;
+  over_zero = (course_sound divides.bodies ten_over in_range_over refl no_tables over_zero_steps 2 _ _ _ _ (20, refl)).valid;
+  over_other = (course_sound divides.bodies ten_over in_range_over refl no_tables over_other_steps 2 _ _ _ _ (20, refl)).valid;
 }

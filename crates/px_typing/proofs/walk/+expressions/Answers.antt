@@ -3,9 +3,9 @@ use Rattle.std.proofs.lemmas.Result.{IfOk-equal}
 use Rattle.px_typing.proofs.ChainMentions.{mentions-Binary, mentions-Member, mentions-Call}
 use Rattle.px_typing.proofs.walk.+expressions.Goals as goal
 
-pub expression_mentions-returns-in_ok-expression_mentions-in-Binary-2 :
-    goal.expression_mentions-returns-in_ok-expression_mentions-in-Binary-2
-expression_mentions-returns-in_ok-expression_mentions-in-Binary-2 t c =
+pub expression_mentions-returns-in_ok-links_mentions-in-Binary :
+    goal.expression_mentions-returns-in_ok-links_mentions-in-Binary
+expression_mentions-returns-in_ok-links_mentions-in-Binary t c =
     let b = c.in-Binary in
     rw (mentions-Binary _ b.first b.before b.operator b.site b.right b.is) (search (rules, IfOk-equal, append_assoc))
 

@@ -1,6 +1,6 @@
 use Rattle.std.proofs.Common.{◌≡◌, ◌++◌, map, flat_map, drop}
 use Rattle.px_syntax.specs.ExpressionTree.{expression_tree, expressions_of}
-use Rattle.px_typing.specs.Mentions.{of_operator, of_expression, of_expressions}
+use Rattle.px_typing.specs.Mentions.{of_expression, of_expressions}
 use Rattle.px_typing.proofs.walk.+expressions.Given as goal
 
 -- what was found, and what is left, are all
@@ -12,5 +12,5 @@ invariant-expressions_mentions-loop-expression l =
 
 abbrev pub invariant-links_mentions-loop-link : goal.invariant-links_mentions-loop-link
 invariant-links_mentions-loop-link l =
-    l.out ++ flat_map (λ k. of_expression (expression_tree k.operand) ++ of_operator k.operator) (drop l.link-index l.links)
-    ≡ l.initial.out ++ flat_map (λ k. of_expression (expression_tree k.operand) ++ of_operator k.operator) l.links
+    l.out ++ flat_map (λ k. of_expression (expression_tree k.operand)) (drop l.link-index l.links)
+    ≡ l.initial.out ++ flat_map (λ k. of_expression (expression_tree k.operand)) l.links
