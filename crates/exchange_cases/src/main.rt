@@ -66,6 +66,7 @@ where
             scripts::with(rt, alloc, asked, place.parse()?, &bytes_of(alloc, digits)?)?
         }
         "most" => scripts::most(rt, alloc, asked, rest.parse()?)?,
+        "pieces" => scripts::pieces(rt, alloc, asked)?,
         "twice" => scripts::twice(rt, alloc, asked)?,
         "beginnings" => scripts::beginnings(rt, alloc, asked)?,
         "sends" => scripts::failing(rt, alloc, asked, Fails::Send)?,

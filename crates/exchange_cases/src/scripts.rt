@@ -86,6 +86,21 @@ pub fn most<R: Wait>(rt: &R, alloc: Global, asked: &Asked, most: usize) -> Resul
     told(rt, alloc, asked, script)
 }
 
+/// `pieces`: over how many sizes of pieces, from one byte to the whole frame, the reply gives a table.
+pub fn pieces<R: Wait>(rt: &R, alloc: Global, asked: &Asked) -> Result<String> {
+    let whole = frame(alloc, asked.reply())?.len();
+    let mut given = 0u64;
+    for size in 0..whole {
+        let mut script = reply(alloc, asked)?;
+        script.most = size + 1;
+        let (outcome, _) = followed(rt, alloc, asked, script)?;
+        if outcome.is_ok() {
+            given = given.saturating_add(1);
+        }
+    }
+    Ok(format!(in alloc; "{given} of {whole} give a table")?)
+}
+
 /// `twice`: what is given by the reply, with itself after it.
 pub fn twice<R: Wait>(rt: &R, alloc: Global, asked: &Asked) -> Result<String> {
     let mut script = reply(alloc, asked)?;

@@ -11,3 +11,4 @@ pub mod MessageParts
 pub mod PartsMessage
 pub mod Answering
 pub mod Pieces
+pub mod Following

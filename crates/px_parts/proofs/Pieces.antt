@@ -145,7 +145,7 @@ one_more n pieces piece parts others w q r rest after is first next =
     (streams_more Start q r (take n (joined pieces)) rest (take (n - length (joined pieces)) piece) after parts others first next)
 
 -- what a reader answers to one piece more
-answers : (w v : Waiting) (q : Place) (rest piece : List ℕ) (left : ℕ) (answer : Result Taken WireFault) → w ≡ waits q rest left → IsTaken w piece answer v → IsTakenOn q rest left piece answer v
+pub answers : (w v : Waiting) (q : Place) (rest piece : List ℕ) (left : ℕ) (answer : Result Taken WireFault) → w ≡ waits q rest left → IsTaken w piece answer v → IsTakenOn q rest left piece answer v
 answers w v q rest piece left answer is taken = subst (λ z. IsTaken z piece answer v) is taken
 
 held_exactly : (n : ℕ) (pieces : List (List ℕ)) (piece : List ℕ) (parts : List Part) (w v : Waiting) (t : Taken) → Takes (waits Start [] n) pieces parts w →

@@ -6,3 +6,4 @@ pub mod Forms
 pub mod Skims
 pub mod Kept
 pub mod Laws
+pub mod Following

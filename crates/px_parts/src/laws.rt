@@ -1,7 +1,13 @@
 ghost use Rattle.px_parts.specs.Laws.{PartsAreThose};
+ghost use Rattle.px_parts.specs.Following.{PartsFollow};
 
 /// The parts that a reader gives are those of the message that the bytes spell, however these are cut. It says that it is
 /// the end exactly where all bytes are a message whose parts it gave, and refuses exactly those that are none.
 pub fn parts_are_those()
     ensures { PartsAreThose }
+{}
+
+/// The same of one piece more, where it is known which parts were given so far. Each part has bytes, so that they end.
+pub fn parts_follow()
+    ensures { PartsFollow }
 {}

@@ -16,7 +16,7 @@ mod skim;
 mod steps;
 mod unread;
 
-pub use laws::parts_are_those;
+pub use laws::{parts_are_those, parts_follow};
 pub use part::{Part, Taken};
 pub use place::Place;
 pub use reader::Reader;

@@ -11,3 +11,7 @@ pub mod FaultLemmas
 pub mod CauseLemmas
 pub mod ExchangeLemmas
 pub mod RequestLemmas
+pub mod PartLists
+pub mod GatheringLemmas
+pub mod FeedingLemmas
+pub mod PieceLemmas

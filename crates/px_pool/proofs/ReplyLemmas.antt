@@ -1,8 +1,8 @@
 -- One frame that is read, or the part of one, after a frame that was sent.
-use Rattle.std.proofs.Common.{◌≡◌, refl, sym, ap, subst, ◌∙◌, arith, inr, ℕ, zero, suc, ◌+◌, ◌<◌, ◌≤◌, List, [], ◌++◌, length, true, false, length-take-le, take_all, le_refl}
+use Rattle.std.proofs.Common.{◌≡◌, refl, sym, ap, subst, ◌∙◌, arith, inr, ℕ, zero, suc, ◌+◌, ◌<◌, ◌≤◌, List, [], ◌++◌, length, true, false, take_all, le_refl}
 use Rattle.std.specs.Prelude.{Option, take, nat_lt, Result, Ok, Err, IsErrOf}
 use Rattle.std.specs.Int.{w32, to_be_bytes}
-use Rattle.std.proofs.lemmas.Bool.{lt-ltb, le-ltb}
+use Rattle.std.proofs.lemmas.Bool.{le-ltb}
 use Rattle.std.proofs.lemmas.Nat.{from_be_bytes-to_be_bytes_4}
 use Rattle.px_frames.specs.Frames.{most_bytes, IsPart}
 use Rattle.px_pieces.specs.declared.desk.Lost.{Lost}
@@ -23,7 +23,7 @@ length_given a b bytes n four all within given =
 -- ---- a message after its length
 
 -- a length and fewer bytes than it names are a part of a frame
-part_is : (n : ℕ) (bytes : List ℕ) → n ≤ most_bytes → length bytes < n → IsPart (to_be_bytes w32 n ++ bytes)
+pub part_is : (n : ℕ) (bytes : List ℕ) → n ≤ most_bytes → length bytes < n → IsPart (to_be_bytes w32 n ++ bytes)
 part_is n bytes short few = inr (n, (omega arith, from_be_bytes-to_be_bytes_4 n (omega arith)), short, omega arith)
 
 pub message_failed : (a b c : Option Talk) (n m : ℕ) → n ≤ most_bytes → m ≡ n → Gives a b (to_be_bytes w32 n) false → GivesFewer b c m → Unanswered a c [] Read
@@ -32,16 +32,6 @@ message_failed a b c n m short all p (bytes, few, q) = (
   gives_on a b c (to_be_bytes w32 n) bytes false p q,
   (to_be_bytes w32 n ++ bytes, refl, part_is n bytes short (subst (λ k. length bytes < k) all few)),
 )
-
-pub message_closed : (a b c : Option Talk) (n k m : ℕ) (bytes : List ℕ) → n ≤ most_bytes → length bytes ≡ n → k < length bytes → m ≡ 4 + k →
-    Gives a b (to_be_bytes w32 n) false → Gives b c (take k bytes) (nat_lt k (length bytes)) → Unanswered a c [] (Closed m)
-message_closed a b c n k m bytes short all few is p q =
-    let within : k ≤ length bytes = omega arith in
-    let many : length (take k bytes) ≡ k = length-take-le k bytes within in (
-      gave [] (to_be_bytes w32 n ++ take k bytes) true,
-      gives_on a b c (to_be_bytes w32 n) (take k bytes) true p (subst (λ e. Gives b c (take k bytes) e) (lt-ltb k (length bytes) few) q),
-      (to_be_bytes w32 n ++ take k bytes, refl, part_is n (take k bytes) short (omega (arith, many, all)), omega (arith, many, is)),
-    )
 
 -- ---- after a frame that was sent
 

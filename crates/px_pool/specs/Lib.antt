@@ -8,5 +8,6 @@ pub mod LinkLaws
 pub mod Derived
 pub mod Checks
 pub mod Outcomes
+pub mod Gathering
 pub mod Reading
 pub mod Laws

@@ -81,7 +81,8 @@ fn reply_in(alloc: Global, job: &Job, message: &[u8]) -> Result<Reply, Lost>
     }
 }
 
-fn are_kinds(a: &[u8], b: &[u8]) -> bool
+/// Whether these are the same kinds.
+pub(crate) fn are_kinds(a: &[u8], b: &[u8]) -> bool
     ensures { result ≡ true ↔ a.now ≡ b.now }
 {
     a == b

@@ -38,8 +38,8 @@ pub(crate) fn check_all(
     Ok(all)
 }
 
-// Checks the entry with this place by a derivation.
-fn check_one(
+/// Checks the entry with this place by a derivation.
+pub(crate) fn check_one(
     alloc: Global,
     job: &Job,
     entry: Entry,

@@ -6,7 +6,6 @@ ghost use Rattle.px_pool.specs.Talks.{Talk, Passes};
 ghost use Rattle.px_pool.specs.Words.{IsInStep};
 ghost use Rattle.px_pool.specs.Outcomes.{IsAnswered, IsCauseOf, CountsFaults};
 
-use crate::answers::answer_in;
 use crate::link::Link;
 use crate::replies::ask;
 use crate::requests::{request_frame, spells};
@@ -15,7 +14,8 @@ use px_pieces::{Lost, Piece};
 use std::alloc::Global;
 use std::sync::Wait;
 
-/// Asks a worker for a job, and gives the piece of its reply, each entry checked by its derivation.
+/// Asks a worker for a job, and gives the piece of its reply, each entry checked when its derivation comes. It keeps no copy of the
+/// reply's bytes.
 ///
 /// The link has to stand where each exchange so far was answered, and stands there again where a piece is given. After an
 /// error it may not be used for another job. It may wait for the worker for ever.
@@ -34,8 +34,7 @@ pub fn exchange<R: Wait, K: Link>(
     ensures faults { CountsFaults (K.count link.old) (K.count link.new) result }
 {
     let framed = request_frame(alloc, job)?;
-    let message = ask(rt, alloc, link, &framed)?;
-    let answer = answer_in(alloc, job, &message)?;
+    let answer = ask(rt, alloc, link, &framed, job)?;
     // A worker that keeps its word replies to no bytes but those of a request. What a liar replies to others isn't taken.
     let Ok(true) = spells(alloc, &framed, job) else {
         return Err(Lost::NoMemory);

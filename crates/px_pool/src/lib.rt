@@ -1,6 +1,6 @@
-//! Links to workers, spawners of links, and exchanges over them: a job's request is sent, one reply is read, and each of
-//! its entries is checked by its derivation. `exchange` gives a piece exactly where the reply answers the job, or the one
-//! cause why not, and reads nothing after the reply.
+//! Links to workers, spawners of links, and exchanges over them: a job's request is sent, one reply is read by its parts as
+//! its bytes come, and each of its entries is checked when its derivation is there. `exchange` gives a piece exactly where the
+//! reply answers the job, or the one cause why not, and reads nothing after the reply.
 //!
 //! Links and spawners are traits that say what passed and whose word replies are; both are here in memory, by scripts.
 //! What is told of a link grows by what is sent and given, and by nothing else; a call fails only with a risen count.
@@ -11,6 +11,9 @@
 mod answers;
 mod checks;
 mod exchanging;
+mod feeding;
+mod gathering;
+mod judging;
 mod laws;
 mod link;
 mod reading;

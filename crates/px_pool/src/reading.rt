@@ -44,3 +44,22 @@ fn receive_after<R: Wait, K: Link>(
 {
     link.receive(rt, &mut into[have..])
 }
+
+/// Receives once, at most so many bytes and as many as have room, into the front of a slice.
+pub(crate) fn receive_front<R: Wait, K: Link>(
+    rt: &R,
+    link: &mut K,
+    into: &mut [u8],
+    most: usize,
+) -> Result<usize, Failed>
+    requires room { 0 < length into.old }
+    requires some { 0 < most }
+    ensures bound { IfOk result (λ n. (n ≤ most) × (n ≤ length into.new)) }
+    ensures given { IfOk result (λ n. Gives (K.told link.old) (K.told link.new) (take n into.new) (nat_eq n 0)) }
+    ensures none { OnErr result (Passes (K.told link.old) (K.told link.new) nothing) }
+    ensures word { IsWordKept K.Word.says (K.told link.new) }
+    ensures cause { HasCause (K.count link.old) (K.count link.new) result }
+{
+    let room = into.len().min(most);
+    link.receive(rt, &mut into[..room])
+}

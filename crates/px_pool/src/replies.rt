@@ -1,62 +1,97 @@
-ghost use Rattle.std.specs.Prelude.{◌≡◌, ◌≤◌, length, take, [], false, IfOk, IsErrOf, OnOk};
+ghost use Rattle.std.specs.Prelude.{◌≡◌, ◌≤◌, [], false, length, take, IfOk, IsErrOf, OnOk};
+ghost use Rattle.px_callgraph.specs.JobTree.{job_tree};
 ghost use Rattle.std.specs.Int.{w32, to_be_bytes, from_be_bytes};
-ghost use Rattle.px_frames.specs.Frames.{frame_of, most_bytes};
-ghost use Rattle.px_pool.specs.Talks.{Passes};
+ghost use Rattle.px_frames.specs.Frames.{most_bytes};
 ghost use Rattle.px_pool.specs.Words.{IsWordKept};
 ghost use Rattle.px_pieces.specs.declared.desk.Lost.{Lost as ALost};
-ghost use Rattle.px_pool.specs.Outcomes.{gave, CountsFaults};
-ghost use Rattle.px_pool.specs.Reading.{Gives, Unanswered};
+ghost use Rattle.px_pool.specs.Outcomes.{CountsFaults};
+ghost use Rattle.px_pool.specs.Reading.{Gives, Unanswered, IsRead, IsReplied};
 
+use crate::answers::Answer;
+use crate::feeding::{feed, feed_more, outcome};
+use crate::gathering::Standing;
 use crate::link::Link;
-use crate::reading::fill;
+use crate::reading::{fill, receive_front};
+use px_callgraph::Job;
 use px_frames::MOST_BYTES;
 use px_io::Failed;
+use px_parts::Reader;
 use px_pieces::Lost;
-use px_terms::NoMemory;
 use std::alloc::Global;
 use std::sync::Wait;
 
-/// Sends a frame, and reads the message of the one frame that is given after it.
+/// How many bytes are received at a time, at most.
+const PIECE: usize = 4_096;
+
+/// Sends a frame, and says what the message of the one frame that is given after it gives of a job. No copy of the message is made.
 pub(crate) fn ask<R: Wait, K: Link>(
     rt: &R,
     alloc: Global,
     link: &mut K,
     framed: &[u8],
-) -> Result<Vec<u8>, Lost>
-    ensures short { IfOk result (λ m. length m.items ≤ most_bytes) }
-    ensures given { IfOk result (λ m. Passes (K.told link.old) (K.told link.new) (gave framed.now (frame_of m.items) false)) }
-    ensures unanswered { (why : ALost) → IsErrOf result why → Unanswered (K.told link.old) (K.told link.new) framed.now why }
+    job: &Job,
+) -> Result<Answer, Lost>
+    ensures replied { IsReplied (job_tree job.now) (K.told link.old) (K.told link.new) framed.now result }
     ensures word { OnOk result (IsWordKept K.Word.says (K.told link.new)) }
     ensures faults { CountsFaults (K.count link.old) (K.count link.new) result }
 {
     match link.send(rt, framed) {
-        Ok(()) => read_message(rt, alloc, link),
+        Ok(()) => read_reply(rt, alloc, link, job),
         Err(Failed) => Err(Lost::Send),
     }
 }
 
-// Reads one frame, and gives its message. Room for it is taken when its length is known.
-fn read_message<R: Wait, K: Link>(rt: &R, alloc: Global, link: &mut K) -> Result<Vec<u8>, Lost>
-    ensures short { IfOk result (λ m. length m.items ≤ most_bytes) }
-    ensures given { IfOk result (λ m. Gives (K.told link.old) (K.told link.new) (frame_of m.items) false) }
-    ensures unanswered { (why : ALost) → IsErrOf result why → Unanswered (K.told link.old) (K.told link.new) [] why }
+// Reads one frame, and says what its message gives.
+fn read_reply<R: Wait, K: Link>(
+    rt: &R,
+    alloc: Global,
+    link: &mut K,
+    job: &Job,
+) -> Result<Answer, Lost>
+    ensures replied { IsReplied (job_tree job.now) (K.told link.old) (K.told link.new) [] result }
     ensures word { OnOk result (IsWordKept K.Word.says (K.told link.new)) }
     ensures faults { CountsFaults (K.count link.old) (K.count link.new) result }
 {
     let length = read_length(rt, link)?;
-    let Ok(mut message) = zeros(alloc, length) else {
-        return Err(Lost::NoMemory);
-    };
-    match fill(rt, link, &mut message) {
-        Ok(count) => {
-            if count < message.len() {
-                Err(Lost::Closed(4 + count as u64))
-            } else {
-                Ok(message)
-            }
+    read_parts(rt, alloc, link, job, length)
+}
+
+// Reads a message of so many bytes, and says what it gives. Whatever that is, it is read to its end.
+fn read_parts<R: Wait, K: Link>(
+    rt: &R,
+    alloc: Global,
+    link: &mut K,
+    job: &Job,
+    length: u32,
+) -> Result<Answer, Lost>
+    requires { length ≤ most_bytes }
+    ensures read { IsRead (job_tree job.now) (K.told link.old) (K.told link.new) length result }
+    ensures word { IsWordKept K.Word.says (K.told link.old) → IsWordKept K.Word.says (K.told link.new) }
+    ensures faults { CountsFaults (K.count link.old) (K.count link.new) result }
+{
+    let mut reader = Reader::new(alloc, length);
+    let mut fed = feed(alloc, job, &mut reader, Standing::Unbegun, &[]);
+    let mut piece = [0u8; PIECE];
+    let mut came = 0;
+    while came < length as usize {
+        let Ok(count) = receive_front(rt, link, &mut piece, length as usize - came) else {
+            return Err(Lost::Read);
+        };
+        if count == 0 {
+            return Err(Lost::Closed(4 + came as u64));
         }
-        Err(Failed) => Err(Lost::Read),
+        fed = feed_more(alloc, job, &mut reader, fed, first(&piece, count));
+        came += count;
     }
+    outcome(fed)
+}
+
+// So many of the first bytes of a piece.
+fn first(piece: &[u8], count: usize) -> &[u8]
+    requires { count ≤ length piece.now }
+    ensures { result.now ≡ take count piece.now }
+{
+    &piece[..count]
 }
 
 // Reads the length of a message, if it has room in a frame.
@@ -89,11 +124,4 @@ fn length_in(bytes: [u8; 4]) -> u32
     ensures spelled { to_be_bytes w32 result ≡ bytes }
 {
     u32::from_be_bytes(bytes)
-}
-
-// So many zeros.
-fn zeros(alloc: Global, count: u32) -> Result<Vec<u8>, NoMemory>
-    ensures { IfOk result (λ v. length v.items ≡ count) }
-{
-    Ok(vec![in alloc; 0; count as usize]?)
 }

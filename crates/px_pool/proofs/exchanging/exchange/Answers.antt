@@ -1,14 +1,16 @@
-use Rattle.std.proofs.Common.{rules, refl, ℕ, Vec, Global, sym, ap, subst, ◌∙◌, ◌≡◌, Err}
+use Rattle.std.proofs.Common.{rules, refl, sym, ap, subst, ◌∙◌, ◌≡◌, Err}
 use Rattle.std.proofs.lemmas.Result.{err_from_is_err_and}
 use Rattle.px_callgraph.specs.JobTree.{job_tree}
 use Rattle.px_frames.specs.Frames.{frame_of}
 use Rattle.px_wire.specs.Messages.{IsMessage, request}
 use Rattle.px_pieces.specs.declared.desk.Lost.TheVariants.{NoMemory}
 use Rattle.px_pieces.specs.Pieces.{PieceParts, AreOf, table_from}
+use Rattle.px_pool.specs.declared.answers.Answer.{Answer}
 use Rattle.px_pool.specs.Talks.{Talk, Passes}
-use Rattle.px_pool.specs.Outcomes.{request_of, GivesTable, IsFaultIn, IsAnswered}
+use Rattle.px_pool.specs.Outcomes.{request_of, IsAnswered}
 use Rattle.px_pool.proofs.ReplyLemmas.{of_lost, of_err}
-use Rattle.px_pool.proofs.ExchangeLemmas.{HasCauseOf, unasked, unanswered, faulty, answered, step, word, told, unasked_counts, fault_counts, err_counts}
+use Rattle.px_pool.proofs.ExchangeLemmas.{HasCauseOf, unasked, faulty, answered, step, word, told, unasked_counts, err_counts}
+use Rattle.px_pool.proofs.PieceLemmas.{message_of, no_answer}
 use Rattle.px_pool.proofs.exchanging.exchange.Goals as goal
 
 -- ---- no request
@@ -27,25 +29,7 @@ returns-in_err-framed-clause-faults g c =
     let e = c.in_err-framed.field-0.0 in
     unasked_counts (job_tree c.args.job.now) (g.K.Link.count c.args.link.now) c.from_residual.result e (p.1 ∙ ap (λ z. Err z) p.2) (c.in_err-framed.ensures.unasked e refl)
 
--- ---- no message
-
-pub returns-in_err-message-clause-cause : goal.returns-in_err-message-clause-cause
-returns-in_err-message-clause-cause g c =
-    let p = err_from_is_err_and c.from_residual-in_err-message.result c.from_residual-in_err-message.ensures.1 in
-    let j = job_tree c.args.job.now in
-    let t0 = g.K.Link.told c.args.link.now in
-    let t1 = g.K.Link.told c.ask.new.link in
-    let e = c.in_err-message.field-0.0 in
-    let is : c.deref.result.now ≡ frame_of (request_of j) = search rules in
-    of_err c.from_residual-in_err-message.result e (λ w. HasCauseOf j t0 t1 w) (p.1 ∙ ap (λ z. Err z) p.2) (unanswered j t0 t1 c.deref.result.now e is c.in_ok-framed.ensures.short (c.in_err-message.ensures.unanswered e refl))
-
-pub returns-in_err-message-clause-faults : goal.returns-in_err-message-clause-faults
-returns-in_err-message-clause-faults g c =
-    let p = err_from_is_err_and c.from_residual-in_err-message.result c.from_residual-in_err-message.ensures.1 in
-    let e = c.in_err-message.field-0.0 in
-    err_counts (Vec ℕ Global) (g.K.Link.count c.args.link.now) (g.K.Link.count c.ask.new.link) c.from_residual-in_err-message.result e (p.1 ∙ ap (λ z. Err z) p.2) c.in_err-message.ensures.faults
-
--- ---- a message with a fault
+-- ---- no answer
 
 pub returns-in_err-answer-clause-cause : goal.returns-in_err-answer-clause-cause
 returns-in_err-answer-clause-cause g c =
@@ -53,19 +37,15 @@ returns-in_err-answer-clause-cause g c =
     let j = job_tree c.args.job.now in
     let t0 = g.K.Link.told c.args.link.now in
     let t1 = g.K.Link.told c.ask.new.link in
-    let m = c.in_ok-message.message.items in
     let e = c.in_err-answer.field-0.0 in
     let is : c.deref.result.now ≡ frame_of (request_of j) = search rules in
-    let m_is : c.deref-2.result.now ≡ m = search rules in
-    of_err c.from_residual-in_err-answer.result e (λ w. HasCauseOf j t0 t1 w) (p.1 ∙ ap (λ z. Err z) p.2)
-    (faulty j t0 t1 c.deref.result.now m is c.in_ok-framed.ensures.short c.in_ok-message.ensures.short c.in_ok-message.ensures.given e (subst (λ l. IsFaultIn j l e) m_is (c.in_err-answer.ensures.fault e refl)))
+    of_err c.from_residual-in_err-answer.result e (λ w. HasCauseOf j t0 t1 w) (p.1 ∙ ap (λ z. Err z) p.2) (no_answer j t0 t1 c.deref.result.now e is c.in_ok-framed.ensures.short c.in_err-answer.ensures.replied)
 
 pub returns-in_err-answer-clause-faults : goal.returns-in_err-answer-clause-faults
 returns-in_err-answer-clause-faults g c =
     let p = err_from_is_err_and c.from_residual-in_err-answer.result c.from_residual-in_err-answer.ensures.1 in
     let e = c.in_err-answer.field-0.0 in
-    fault_counts (job_tree c.args.job.now) c.deref-2.result.now (g.K.Link.count c.args.link.now) (g.K.Link.count c.ask.new.link) c.from_residual-in_err-answer.result e (p.1 ∙ ap (λ z. Err z) p.2)
-    c.in_ok-message.ensures.faults (c.in_err-answer.ensures.fault e refl)
+    err_counts Answer (g.K.Link.count c.args.link.now) (g.K.Link.count c.ask.new.link) c.from_residual-in_err-answer.result e (p.1 ∙ ap (λ z. Err z) p.2) c.in_err-answer.ensures.faults
 
 -- ---- bytes that spell another job, or no memory to see it, or for a copy of the job
 
@@ -74,76 +54,75 @@ returns-in_default-clause-cause g c =
     let j = job_tree c.args.job.now in
     let t0 = g.K.Link.told c.args.link.now in
     let t1 = g.K.Link.told c.ask.new.link in
-    let m = c.in_ok-message.message.items in
     let is : c.deref.result.now ≡ frame_of (request_of j) = search rules in
-    of_lost NoMemory (λ w. HasCauseOf j t0 t1 w) (faulty j t0 t1 c.deref.result.now m is c.in_ok-framed.ensures.short c.in_ok-message.ensures.short c.in_ok-message.ensures.given NoMemory tt)
+    let h = message_of j t0 t1 c.deref.result.now c.in_ok-answer.answer c.in_ok-answer.ensures.replied in
+    of_lost NoMemory (λ w. HasCauseOf j t0 t1 w) (faulty j t0 t1 c.deref.result.now h.message is c.in_ok-framed.ensures.short h.short h.given NoMemory tt)
 
 pub returns-in_default-clause-faults : goal.returns-in_default-clause-faults
-returns-in_default-clause-faults g c = c.in_ok-message.ensures.faults
+returns-in_default-clause-faults g c = c.in_ok-answer.ensures.faults
 
 pub returns-in_default-copy_job-clause-cause : goal.returns-in_default-copy_job-clause-cause
 returns-in_default-copy_job-clause-cause g c =
     let j = job_tree c.args.job.now in
     let t0 = g.K.Link.told c.args.link.now in
     let t1 = g.K.Link.told c.ask.new.link in
-    let m = c.in_ok-message.message.items in
     let is : c.deref.result.now ≡ frame_of (request_of j) = search rules in
-    of_lost NoMemory (λ w. HasCauseOf j t0 t1 w) (faulty j t0 t1 c.deref.result.now m is c.in_ok-framed.ensures.short c.in_ok-message.ensures.short c.in_ok-message.ensures.given NoMemory tt)
+    let h = message_of j t0 t1 c.deref.result.now c.in_ok-answer.answer c.in_ok-answer.ensures.replied in
+    of_lost NoMemory (λ w. HasCauseOf j t0 t1 w) (faulty j t0 t1 c.deref.result.now h.message is c.in_ok-framed.ensures.short h.short h.given NoMemory tt)
 
 pub returns-in_default-copy_job-clause-faults : goal.returns-in_default-copy_job-clause-faults
-returns-in_default-copy_job-clause-faults g c = c.in_ok-message.ensures.faults
+returns-in_default-copy_job-clause-faults g c = c.in_ok-answer.ensures.faults
 
 -- ---- a piece
 
 pub new-requires-clause-derived : goal.new-requires-clause-derived
-new-requires-clause-derived g c = subst (λ j. AreOf j c.in_ok-answer.answer.entries) (sym c.in-Ok.ensures) c.in_ok-answer.ensures.jobs
+new-requires-clause-derived g c =
+    let j = job_tree c.args.job.now in
+    let t0 = g.K.Link.told c.args.link.now in
+    let t1 = g.K.Link.told c.ask.new.link in
+    let h = message_of j t0 t1 c.deref.result.now c.in_ok-answer.answer c.in_ok-answer.ensures.replied in
+    subst (λ z. AreOf z c.in_ok-answer.answer.entries) (sym c.in-Ok.ensures) h.jobs
 
 pub new-requires-clause-told : goal.new-requires-clause-told
 new-requires-clause-told g c =
     let j = job_tree c.args.job.now in
-    let range : IsMessage (request j) = c.in-Ok-true.ensures.0 c.in-Ok-true.field-0-test in
     let t0 = g.K.Link.told c.args.link.now in
     let t1 = g.K.Link.told c.ask.new.link in
-    let m = c.in_ok-message.message.items in
+    let range : IsMessage (request j) = c.in-Ok-true.ensures.0 c.in-Ok-true.field-0-test in
     let t = table_from c.in_ok-answer.answer.entries c.in_ok-answer.answer.drops in
     let is : c.deref.result.now ≡ frame_of (request_of j) = search rules in
-    let m_is : c.deref-2.result.now ≡ m = search rules in
-    told j t0 t1 c.deref.result.now m is c.in_ok-framed.ensures.short c.in_ok-message.ensures.short c.in_ok-message.ensures.given g.K.Word.Honesty.says (job_tree c.in-Ok.copy) t
-    c.in-Ok.ensures c.requires.step c.in_ok-message.ensures.word range (subst (λ l. GivesTable j l t) m_is c.in_ok-answer.ensures.table)
+    let h = message_of j t0 t1 c.deref.result.now c.in_ok-answer.answer c.in_ok-answer.ensures.replied in
+    told j t0 t1 c.deref.result.now h.message is c.in_ok-framed.ensures.short h.short h.given g.K.Word.Honesty.says (job_tree c.in-Ok.copy) t c.in-Ok.ensures c.requires.step c.in_ok-answer.ensures.word range h.table
 
 pub returns-clause-answered : goal.returns-clause-answered
 returns-clause-answered g c =
     let j = job_tree c.args.job.now in
     let t0 = g.K.Link.told c.args.link.now in
     let t1 = g.K.Link.told c.ask.new.link in
-    let m = c.in_ok-message.message.items in
     let t = table_from c.in_ok-answer.answer.entries c.in_ok-answer.answer.drops in
     let is : c.deref.result.now ≡ frame_of (request_of j) = search rules in
-    let m_is : c.deref-2.result.now ≡ m = search rules in
+    let h = message_of j t0 t1 c.deref.result.now c.in_ok-answer.answer c.in_ok-answer.ensures.replied in
     let same : table_from c.new.result.entries c.new.result.drops ≡ t = ap (λ (p : PieceParts). table_from p.entries p.drops) c.new.ensures in
-    subst (λ z. (x : Talk) × Passes t0 t1 x × IsAnswered j x z) (sym same)
-    (answered j t0 t1 c.deref.result.now m is c.in_ok-framed.ensures.short c.in_ok-message.ensures.short c.in_ok-message.ensures.given t (subst (λ l. GivesTable j l t) m_is c.in_ok-answer.ensures.table))
+    subst (λ z. (x : Talk) × Passes t0 t1 x × IsAnswered j x z) (sym same) (answered j t0 t1 c.deref.result.now h.message is c.in_ok-framed.ensures.short h.short h.given t h.table)
 
 pub returns-clause-word : goal.returns-clause-word
 returns-clause-word g c =
     let j = job_tree c.args.job.now in
-    let range : IsMessage (request j) = c.in-Ok-true.ensures.0 c.in-Ok-true.field-0-test in
     let t0 = g.K.Link.told c.args.link.now in
     let t1 = g.K.Link.told c.ask.new.link in
-    let m = c.in_ok-message.message.items in
+    let range : IsMessage (request j) = c.in-Ok-true.ensures.0 c.in-Ok-true.field-0-test in
     let t = table_from c.in_ok-answer.answer.entries c.in_ok-answer.answer.drops in
     let is : c.deref.result.now ≡ frame_of (request_of j) = search rules in
-    let m_is : c.deref-2.result.now ≡ m = search rules in
+    let h = message_of j t0 t1 c.deref.result.now c.in_ok-answer.answer c.in_ok-answer.ensures.replied in
     let same : table_from c.new.result.entries c.new.result.drops ≡ t = ap (λ (p : PieceParts). table_from p.entries p.drops) c.new.ensures in
     subst (λ z. g.K.Word.Honesty.says j z) (sym same)
-    (word j t0 t1 c.deref.result.now m is c.in_ok-framed.ensures.short c.in_ok-message.ensures.short c.in_ok-message.ensures.given g.K.Word.Honesty.says t c.requires.step c.in_ok-message.ensures.word range
-    (subst (λ l. GivesTable j l t) m_is c.in_ok-answer.ensures.table))
+    (word j t0 t1 c.deref.result.now h.message is c.in_ok-framed.ensures.short h.short h.given g.K.Word.Honesty.says t c.requires.step c.in_ok-answer.ensures.word range h.table)
 
 pub returns-clause-step : goal.returns-clause-step
 returns-clause-step g c =
     let j = job_tree c.args.job.now in
     let t0 = g.K.Link.told c.args.link.now in
     let t1 = g.K.Link.told c.ask.new.link in
-    let m = c.in_ok-message.message.items in
     let is : c.deref.result.now ≡ frame_of (request_of j) = search rules in
-    step j t0 t1 c.deref.result.now m is c.in_ok-framed.ensures.short c.in_ok-message.ensures.short c.in_ok-message.ensures.given c.requires.step
+    let h = message_of j t0 t1 c.deref.result.now c.in_ok-answer.answer c.in_ok-answer.ensures.replied in
+    step j t0 t1 c.deref.result.now h.message is c.in_ok-framed.ensures.short h.short h.given c.requires.step
