@@ -21,6 +21,7 @@ use Rattle.px_terms.specs.declared.conjuncts.Content.{Content}
 use Rattle.px_terms.specs.declared.conjuncts.Content.TheVariants.{Word, Cell}
 use Rattle.px_terms.specs.declared.conjuncts.Conj.TheVariants as conjunct
 use Rattle.px_terms.proofs.WordLaws.{words_are_signed}
+use Rattle.px_terms.proofs.TermWords.{below}
 use Rattle.px_core.specs.declared.command.Operand.{Operand}
 use Rattle.px_core.specs.CommandTree.{divide}
 use Rattle.px_core.specs.Control.{Item, Act}
@@ -50,7 +51,7 @@ use Rattle.px_soundness.proofs.Truths.{constant_word}
 use Rattle.px_soundness.proofs.WellTyped.{grown_by}
 use Rattle.px_soundness.proofs.Contents.{set_is, operand_is, number_is, variable_is_content}
 use Rattle.px_soundness.proofs.PlainSteps.{operand_good}
-use Rattle.px_soundness.proofs.Divisions.{no_quotient, a_quotient, word_below, constant_cases}
+use Rattle.px_soundness.proofs.Divisions.{no_quotient, a_quotient, constant_cases}
 use Rattle.px_symexec.proofs.Lists.{IsIn, in_left, in_right}
 use Rattle.px_coverage.specs.Covered.{Execution}
 use Rattle.px_coverage.proofs.Stands.{Stands}
@@ -209,7 +210,7 @@ module _ (P : CoreProgram) (j : JobTree) (same_types : j.types ≡ P.types) (e :
       words_found : (o : Option Value) → quotient (signed (word_of v p)) (signed (word_of v q)) ≡ o → On o → FoundWords
       words_found o is go = elim (cases_eq (word_of v q) 0) [
         | inl none ↦ by_zero_found none (subst On (sym is ∙ no_quotient (signed (word_of v p)) (word_of v q) none) go)
-        | inr some ↦ divided_found some (subst On (sym is ∙ a_quotient (signed (word_of v p)) (word_of v q) (word_below v q) some) go)
+        | inr some ↦ divided_found some (subst On (sym is ∙ a_quotient (signed (word_of v p)) (word_of v q) (below v q) some) go)
       ]
 
     contents_found : (y y' : Content) → operand_content s a ≡ y → operand_content s b ≡ y' → (o : Option Value) (p q : Polynomial) → y ≡ Word p → y' ≡ Word q → quotient (signed (word_of v p)) (signed (word_of v q)) ≡ o → On o →

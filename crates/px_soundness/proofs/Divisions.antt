@@ -23,6 +23,7 @@ use Rattle.px_terms.specs.declared.conjuncts.Content.{Content}
 use Rattle.px_terms.specs.declared.conjuncts.Content.TheVariants.{Unwritten, Word, Place, Cell}
 use Rattle.px_terms.specs.declared.conjuncts.Conj.TheVariants as conjunct
 use Rattle.px_terms.proofs.WordLaws.{words_are_signed}
+use Rattle.px_terms.proofs.TermWords.{below}
 use Rattle.px_core.specs.declared.command.Operand.{Operand}
 use Rattle.px_core.specs.CommandTree.{divide}
 use Rattle.px_core.specs.Control.{Item}
@@ -75,9 +76,6 @@ variable_number v x = once (numbers_of v x)
   where
     once : (n : ℕ) → (0 + (1 * (n * 1) + 0)) % 2 ^ 32 ≡ n % 2 ^ 32
     once n = ap (λ m. m % 2 ^ 32) (let e : 0 + (1 * (n * 1) + 0) ≡ n = omega arith in e)
-
-pub word_below : (v : Valuation) (p : Polynomial) → word_of v p < 2 ^ 32
-word_below v p = omega arith
 
 -- a variable that is a quotient has its word
 quotient_word : (v : Valuation) (x : ℕ) (m n : ℕ) → IsQuotient (numbers_of v x % 2 ^ 32) m n → content_value v (Word (variable x)) ≡ wrapped (int_div (signed m) (signed n))
@@ -146,7 +144,7 @@ module _ (j : JobTree) (types : List BlockType) (calls : ProcedureCalls Mark) (s
       gives : (v : Valuation) (H : HeapMap) (K : WholeGoal) (c : Content) → word_of v q ≢ 0 → content_value v c ≡ wrapped (int_div (signed (word_of v p)) (signed (word_of v q))) →
           K s.trace (Goes k (contents_value v (slice_set s.slots to c)) H) → D v H K
       gives v H K c d same l =
-          reaches v H K (Some (content_value v c)) (a_quotient (signed (word_of v p)) (word_of v q) (word_below v q) d ∙ ap Some (sym same))
+          reaches v H K (Some (content_value v c)) (a_quotient (signed (word_of v p)) (word_of v q) (below v q) d ∙ ap Some (sym same))
           (subst (λ z. K s.trace (Goes k z H)) (set_is v s.slots to c) l)
 
       constant_sound : is_open s.vars (conjunct.Unequal q) ≡ true → (c : Content) → constant_quotient (entry.word_of p) (entry.word_of q) ≡ Some c → Sound D s k (quotient_by to p q (Some c) s1) goes
