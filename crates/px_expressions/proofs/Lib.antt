@@ -6,3 +6,4 @@ pub mod TypeExact
 pub mod ExpressionExact
 pub mod UnaryEquations
 pub mod Loops
+pub mod WordLemmas
