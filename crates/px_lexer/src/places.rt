@@ -56,14 +56,19 @@ impl Lines {
     }
 
     // Whether a byte stands on a line.
-    #[tactic(auto, using(crate::proofs::SiteLemmas::on_line, crate::proofs::SiteLemmas::on_few))]
     fn is_on(&self, line: usize, at: u32) -> bool
         ensures exact { result ≡ true → line ≡ lines_before self.now.starts.items at }
         ensures within { result ≡ true → line ≤ length self.now.starts.items }
         ensures begun { result ≡ true → slice_index (0 ∷ self.now.starts.items) line ≤ at }
         ensures few { result ≡ true → line ≤ at }
     {
-        line <= self.starts.len() && self.start(line) <= at && !self.has_begun(line, at)
+        if line > self.starts.len() {
+            return false;
+        }
+        if self.start(line) > at {
+            return false;
+        }
+        !self.has_begun(line, at)
     }
 
     // Whether the line after this one begins at a byte or before it.
