@@ -6,4 +6,3 @@ pub mod TypeExact
 pub mod ExpressionExact
 pub mod UnaryEquations
 pub mod Loops
-pub mod WordLemmas

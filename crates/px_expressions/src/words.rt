@@ -76,7 +76,6 @@ pub fn is_outside(text: &[u8]) -> bool
 }
 
 // The terminal that the word is. The words that aren't names have two to eight letters.
-#[tactic(auto, using(crate::proofs::WordLemmas::short_name, crate::proofs::WordLemmas::long_name))]
 fn word_terminal(text: &[u8]) -> Terminal
     ensures { result ≡ word_terminal text.now }
 {
