@@ -1,4 +1,5 @@
 use anyhow::{Context, Result, bail};
+use case_texts::MOST_BYTES;
 use px_real_cutting::items;
 use px_real_declaring::declaration_of;
 use px_real_names::Names;
@@ -10,6 +11,9 @@ use std::fmt::Write;
 
 // The names behind these items, each of which is a declaration with its semicolon.
 fn names_behind(alloc: Global, text: &str, tokens: &[Token]) -> Result<Names> {
+    if tokens.len() > MOST_BYTES {
+        bail!("many tokens");
+    }
     let mut names = Names::new(alloc);
     let Ok(items) = items(alloc, text.as_bytes(), tokens) else {
         bail!("no items");
