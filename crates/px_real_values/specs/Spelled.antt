@@ -1,5 +1,5 @@
 -- The types that names of types in expressions spell (C11 6.7.7): a type's name is a parameter that has no name.
-use Rattle.std.specs.Prelude.{◌≡◌, List, [], ◌∷◌, map, Bool, true, false, Result, Ok, Err}
+use Rattle.std.specs.Prelude.{◌≡◌, List, [], ◌∷◌, map, Bool, true, false, ◌||◌, Result, Ok, Err}
 use Rattle.px_real_expressions.specs.declared.terminal.Terminal.{Terminal}
 use Rattle.px_real_expressions.specs.declared.terminal.Terminal.TheVariants as T
 use Rattle.px_real_expressions.specs.Lexemes.{Lexeme}
@@ -15,7 +15,7 @@ use Rattle.px_real_types.specs.Scopes.{Meanings}
 use Rattle.px_real_types.specs.Specifiers.{specified}
 use Rattle.px_real_types.specs.Declarators.{declared_shape}
 
--- a type, and whether it is written with a star behind what it points to, as `T *`
+-- a type, and whether it is written as a pointer, as `T *`
 pub record Spelled : Type 0 where
   pub shape : Shape
   pub is_starred : Bool
@@ -23,10 +23,18 @@ pub record Spelled : Type 0 where
 abbrev pub nothing_seen : Spelled
 nothing_seen = record { shape = S.Outside; is_starred = false }
 
--- whether the outermost of a declarator is a star
+abbrev pub is_nothing : DeclaratorTree → Bool
+is_nothing no_name = true
+is_nothing _ = false
+
+-- whether a star stands nearest to where the name would stand: then the type is a pointer
 abbrev pub is_starred : DeclaratorTree → Bool
-is_starred (pointer site ss no_name) = true
-is_starred _ = false
+is_starred no_name = false
+is_starred (a_name word site) = false
+is_starred (inner site gs d) = is_starred d
+is_starred (pointer site ss d) = is_nothing d || is_starred d
+is_starred (array site d held) = is_starred d
+is_starred (function site d held) = is_starred d
 
 abbrev pub spelled_in : Meanings → DeclarationTree → Spelled
 spelled_in scope (declaration ss (x ∷ [])) = record { shape = declared_shape x (specified scope ss); is_starred = is_starred x.declarator }
