@@ -5,4 +5,6 @@ pub mod Operands
 pub mod Operators
 pub mod Calls
 pub mod Values
+pub mod Views
+pub mod Turns
 pub mod WorkedValues

@@ -155,19 +155,24 @@ module _ (env : Environment) where
   abbrev pub indirected : List ℕ → Site → Operand → Operand
   indirected text site a = or_else (typed_value a) (pointed_by text site a) (object_of (element (known_of a)) text site (parts env a))
 
+  -- an operator that takes the value of its operand
+  abbrev pub taking : Prefix → Site → Operand → Operand
+  taking P.Indirection site a = indirected (codes "*") site a
+  taking P.Minus site a = negated site a
+  taking P.Not site a = opposed site a
+  taking P.Plus site a = outside_of (codes "+") site (parts env a)
+  taking P.Complement site a = outside_of (codes "~") site (parts env a)
+  taking P.Real site a = outside_of (codes "__real__") site (parts env a)
+  taking P.Imaginary site a = outside_of (codes "__imag__") site (parts env a)
+  taking _ site a = a
+
   -- an address and a step need the pointer to their operand, the others its value
   abbrev pub prefixed : Prefix → Site → Operand → Operand
   prefixed P.Address site a = outside_of (codes "&") site (pointer_parts env a)
   prefixed P.Increment site a = stopped_at (codes "++") site (pointer_parts env a)
   prefixed P.Decrement site a = stopped_at (codes "--") site (pointer_parts env a)
   prefixed P.Extension site a = a
-  prefixed P.Indirection site a = unless_stopped a (indirected (codes "*") site)
-  prefixed P.Minus site a = unless_stopped a (negated site)
-  prefixed P.Not site a = unless_stopped a (opposed site)
-  prefixed P.Plus site a = unless_stopped a (λ x. outside_of (codes "+") site (parts env x))
-  prefixed P.Complement site a = unless_stopped a (λ x. outside_of (codes "~") site (parts env x))
-  prefixed P.Real site a = unless_stopped a (λ x. outside_of (codes "__real__") site (parts env x))
-  prefixed P.Imaginary site a = unless_stopped a (λ x. outside_of (codes "__imag__") site (parts env x))
+  prefixed p site a = unless_stopped a (taking p site)
 
   -- ---- members
 
