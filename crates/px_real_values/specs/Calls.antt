@@ -17,10 +17,11 @@ pub record Given : Type 0 where
   pub first : Site
   pub operand : Operand
 
--- an argument of a parameter of the profile, and one that is evaluated and not passed
-pub data Argument : Type 0 where
-  passed : Expression → Argument
-  erased : List Expression → Argument
+-- arguments as they are evaluated: the values that are passed, and among them what has an effect and isn't passed; whether there is none of
+-- that
+pub record Evaluated : Type 0 where
+  pub all : List Expression
+  pub all_passed : Bool
 
 -- whether there are as many arguments as parameters, or more where it takes more
 abbrev pub fits : List (Option ProfileType) → Bool → List Given → Bool
@@ -28,22 +29,6 @@ fits [] more [] = true
 fits [] more (x ∷ xs) = more
 fits (p ∷ ps) more [] = false
 fits (p ∷ ps) more (x ∷ xs) = fits ps more xs
-
--- ---- arguments in order
-
-abbrev pub passed_of : Argument → List Expression
-passed_of (passed e) = e ∷ []
-passed_of (erased ps) = []
-
-abbrev pub passed_values : List Argument → List Expression
-passed_values xs = flat_map passed_of xs
-
-abbrev pub evaluated_of : Argument → List Expression
-evaluated_of (passed e) = e ∷ []
-evaluated_of (erased ps) = ps
-
-abbrev pub evaluated : List Argument → List Expression
-evaluated xs = flat_map evaluated_of xs
 
 -- what has no effect, where its value isn't read
 abbrev pub is_silent : Expression → Bool
@@ -56,27 +41,30 @@ abbrev pub are_silent : List Expression → Bool
 are_silent [] = true
 are_silent (e ∷ es) = is_silent e && are_silent es
 
-abbrev pub erased_of : Argument → List Expression
-erased_of (passed e) = []
-erased_of (erased ps) = ps
+-- ---- arguments in order
 
--- whether what isn't passed has no effect
-abbrev pub no_effects : List Argument → Bool
-no_effects xs = are_silent (flat_map erased_of xs)
+-- a value that is passed, before others
+abbrev pub with_passed : Expression → Evaluated → Evaluated
+with_passed e rest = record { all = e ∷ rest.all; all_passed = rest.all_passed }
+
+-- what isn't passed; without an effect it is nothing
+abbrev pub with_erased : List Expression → Evaluated → Evaluated
+with_erased ps rest = if are_silent ps then rest else record { all = ps ++ rest.all; all_passed = false }
 
 module _ (env : Environment) where
   abbrev pub all_parts : List Given → List Expression
   all_parts xs = flat_map (λ x. parts env x.operand) xs
 
-  -- the argument of a parameter, which is erased where it isn't of the profile
-  abbrev pub argument : Option ProfileType → Given → Argument
-  argument (Some t) x = passed (needed env x.first t x.operand)
-  argument None x = erased (parts env x.operand)
+  -- the argument of a parameter, which is erased where that isn't of the profile
+  abbrev pub argument : Option ProfileType → Given → Evaluated → Evaluated
+  argument (Some t) x rest = with_passed (needed env x.first t x.operand) rest
+  argument None x rest = with_erased (parts env x.operand) rest
 
-  abbrev pub arguments : List (Option ProfileType) → List Given → List Argument
-  arguments ps [] = []
-  arguments [] (x ∷ xs) = argument None x ∷ arguments [] xs
-  arguments (p ∷ ps) (x ∷ xs) = argument p x ∷ arguments ps xs
+  -- those beyond the parameters are erased
+  abbrev pub arguments : List (Option ProfileType) → List Given → Evaluated
+  arguments ps [] = record { all = []; all_passed = true }
+  arguments [] (x ∷ xs) = argument None x (arguments [] xs)
+  arguments (p ∷ ps) (x ∷ xs) = argument p x (arguments ps xs)
 
   -- what a call gives: a value, or outside where the result isn't of the profile
   abbrev pub gives : Signature → Site → Expressions → Option ProfileType → Operand
@@ -84,8 +72,8 @@ module _ (env : Environment) where
   gives s at es None = outside_of env (codes "call") at (T.call s.proc es V.Int at ∷ [])
 
   -- a call with these arguments; a typed tree has no place for the effect of one that isn't passed, so that there it is a `Stop`
-  abbrev pub called : Signature → Site → List Argument → Operand
-  called s at xs = if no_effects xs then gives s at (T.expressions_of (passed_values xs)) s.result else stopped_at env (codes "call") at (evaluated xs)
+  abbrev pub called : Signature → Site → Evaluated → Operand
+  called s at xs = if xs.all_passed then gives s at (T.expressions_of xs.all) s.result else stopped_at env (codes "call") at xs.all
 
   abbrev pub function_call : Signature → Site → List Given → Operand
   function_call s at xs = if fits s.parameters s.takes_more xs then called s at (arguments s.parameters xs) else stopped_at env (codes "call") at (all_parts xs)

@@ -1,4 +1,4 @@
-ghost use Rattle.std.specs.Prelude.{◌≡◌, List, [], map, codes, IfOk};
+ghost use Rattle.std.specs.Prelude.{◌≡◌, ◌++◌, List, [], map, codes, get_or, None, IfOk};
 ghost use Rattle.px_real_expressions.specs.Lexemes.{Lexeme};
 ghost use Rattle.px_real_symbols.specs.Symbols.{held_in};
 ghost use Rattle.px_real_values.specs.Environment.{spelled};
@@ -9,16 +9,17 @@ ghost use Rattle.px_real_reading.specs.Trees.{expression_tree, suffix_tree, link
 ghost use Rattle.px_syntax.specs.TypedViews.{typed_expression};
 ghost use Rattle.px_real_values.specs.Values as Rules;
 ghost use Rattle.px_real_values.specs.Operands as Operands;
-ghost use Rattle.px_real_values.specs.Views.{operand_seen, given_seen};
+ghost use Rattle.px_real_values.specs.Calls as Calls;
+ghost use Rattle.px_real_values.specs.Views.{operand_seen, signature_seen};
 
-use crate::calls::{Given, call_of};
+use crate::calls::{are_silent, fits, gives};
 use crate::casts::cast_as;
-use crate::environment::{Callee, Environment, Meaning};
+use crate::environment::{Callee, Environment, Library, Meaning, Signature};
 use crate::known::Known;
 use crate::members::{arrowed, dotted, indirected, object_of};
 use crate::operand::{Operand, Turn, counted};
 use crate::operators::{binary, outside_of, prefixed, stopped_at};
-use crate::types::{block_in, element, number_of, unknown};
+use crate::types::{block_in, element, int, number_of, unknown};
 use crate::words::{assignment_text, measure_text, step_text};
 use px_base::Site;
 use px_real_expressions::{Measure, Operator};
@@ -392,34 +393,168 @@ fn with_suffix<'a, E: Environment>(
             indexed(alloc, environment, is_zero(index), *site, parts, left)
         }
         Suffix::Call { site, arguments } => {
-            let block = block_of(alloc, environment, arguments)?;
-            let given = given(alloc, environment, arguments)?;
-            call_of(alloc, environment, *site, block, given, left)
+            call(alloc, environment, *site, arguments, left)
         }
         Suffix::PointerMember { site, name } => arrowed(alloc, environment, *site, name, left),
         _ => Ok(left),
     }
 }
 
-// The arguments of a call, in order.
+// A call of what is no `Stop`, at its parenthesis.
 #[cycle(operand)]
-fn given<'a, E: Environment>(
+fn call<'a, E: Environment>(
     alloc: Global,
     environment: &'a E,
+    site: Site,
     arguments: &[Expression],
-) -> Result<Vec<Given<'a>>, NoMemory>
-    ensures { IfOk result (λ v. map given_seen v.items ≡ Rules.given (E.sees environment.entry.now) (expressions_of (map (expression_tree (E.tokens environment.entry.now)) arguments.now))) }
+    function: Operand<'a>,
+) -> Result<Operand<'a>, NoMemory>
+    ensures { IfOk result (λ a. operand_seen a ≡ Calls.call_of (E.sees environment.entry.now) site (Rules.block_of (E.sees environment.entry.now) (expressions_of (map (expression_tree (E.tokens environment.entry.now)) arguments.now))) (Rules.given (E.sees environment.entry.now) (expressions_of (map (expression_tree (E.tokens environment.entry.now)) arguments.now))) (operand_seen function.entry)) }
 {
-    let mut all = Vec::with_capacity(alloc, arguments.len())?;
-    for i in 0..arguments.len() {
-        let argument = &arguments[i];
-        let operand = operand(alloc, environment, argument)?;
-        all.push(Given {
-            first: first_site(argument),
-            operand,
-        })?;
+    let text = b"call".as_slice();
+    match function {
+        Operand::Named {
+            callee: Callee::Function(signature),
+            site: at,
+            ..
+        } => function_call(alloc, environment, signature, at, arguments),
+        Operand::Named {
+            callee: Callee::Library(library),
+            site: at,
+            ..
+        } => library_call(alloc, environment, library, at, arguments),
+        Operand::Named { site: at, .. } => {
+            no_call(alloc, environment, text, at, arguments, Vec::new(alloc))
+        }
+        other => {
+            let parts = other.parts(alloc, environment)?;
+            no_call(alloc, environment, text, site, arguments, parts)
+        }
     }
-    Ok(all)
+}
+
+// A call that isn't understood, behind these parts and its arguments.
+#[cycle(operand)]
+fn no_call<'a, E: Environment>(
+    alloc: Global,
+    environment: &'a E,
+    text: &[u8],
+    at: Site,
+    arguments: &[Expression],
+    before: Vec<TypedExpression>,
+) -> Result<Operand<'a>, NoMemory>
+    ensures { IfOk result (λ a. operand_seen a ≡ stopped_at (E.sees environment.entry.now) text.now at (map typed_expression before.items ++ Calls.all_parts (E.sees environment.entry.now) (Rules.given (E.sees environment.entry.now) (expressions_of (map (expression_tree (E.tokens environment.entry.now)) arguments.now))))) }
+{
+    let mut all = before;
+    for i in 0..arguments.len() {
+        let argument = operand(alloc, environment, &arguments[i])?;
+        let mut parts = argument.parts(alloc, environment)?;
+        all.append(&mut parts)?;
+    }
+    Ok(stopped_at(environment, text, at, all))
+}
+
+// A call of a function. What isn't passed and has an effect has no place in the tree of a call.
+#[cycle(operand)]
+fn function_call<'a, E: Environment>(
+    alloc: Global,
+    environment: &'a E,
+    signature: Signature<'a>,
+    at: Site,
+    arguments: &[Expression],
+) -> Result<Operand<'a>, NoMemory>
+    ensures { IfOk result (λ a. operand_seen a ≡ Calls.function_call (E.sees environment.entry.now) (signature_seen signature.entry) at (Rules.given (E.sees environment.entry.now) (expressions_of (map (expression_tree (E.tokens environment.entry.now)) arguments.now)))) }
+{
+    let text = b"call".as_slice();
+    if !fits(signature, arguments.len()) {
+        return no_call(alloc, environment, text, at, arguments, Vec::new(alloc));
+    }
+    let mut all = Vec::with_capacity(alloc, arguments.len())?;
+    let mut all_passed = true;
+    for i in 0..arguments.len() {
+        let given = operand(alloc, environment, &arguments[i])?;
+        match parameter(signature, i) {
+            Some(kind) => {
+                let first = first_site(&arguments[i]);
+                all.push(given.needed(alloc, environment, first, kind)?)?;
+            }
+            None => {
+                let mut parts = given.parts(alloc, environment)?;
+                if !are_silent(&parts) {
+                    all.append(&mut parts)?;
+                    all_passed = false;
+                }
+            }
+        }
+    }
+    if all_passed {
+        gives(alloc, environment, signature, at, all)
+    } else {
+        Ok(stopped_at(environment, text, at, all))
+    }
+}
+
+// The type of a parameter of the profile; others, and what there is beyond them, are erased.
+fn parameter(signature: Signature, at: usize) -> Option<ProfileType>
+    ensures { result ≡ get_or signature.parameters.now at None }
+{
+    match signature.parameters.get(at) {
+        Some(parameter) => *parameter,
+        None => None,
+    }
+}
+
+// A call of a function of the library.
+#[cycle(operand)]
+fn library_call<'a, E: Environment>(
+    alloc: Global,
+    environment: &'a E,
+    library: Library,
+    at: Site,
+    arguments: &[Expression],
+) -> Result<Operand<'a>, NoMemory>
+    ensures { IfOk result (λ a. operand_seen a ≡ Calls.library_call (E.sees environment.entry.now) library at (Rules.block_of (E.sees environment.entry.now) (expressions_of (map (expression_tree (E.tokens environment.entry.now)) arguments.now))) (Rules.given (E.sees environment.entry.now) (expressions_of (map (expression_tree (E.tokens environment.entry.now)) arguments.now)))) }
+{
+    let nothing = Vec::new(alloc);
+    match library {
+        Library::Malloc => match block_of(alloc, environment, arguments)? {
+            Some(block) => Ok(Operand::Block { block, site: at }),
+            None => {
+                let text = b"malloc".as_slice();
+                no_call(alloc, environment, text, at, arguments, nothing)
+            }
+        },
+        Library::Calloc => {
+            let text = b"calloc".as_slice();
+            no_call(alloc, environment, text, at, arguments, nothing)
+        }
+        Library::Realloc => {
+            let text = b"realloc".as_slice();
+            no_call(alloc, environment, text, at, arguments, nothing)
+        }
+        Library::Free => {
+            let text = b"free".as_slice();
+            no_call(alloc, environment, text, at, arguments, nothing)
+        }
+        Library::GetChar if arguments.is_empty() => Ok(Operand::OfType {
+            kind: int(),
+            site: at,
+            value: TypedExpression::GetChar { site: at },
+        }),
+        Library::Expect if arguments.len() == 2 => operand(alloc, environment, &arguments[0]),
+        Library::GetChar | Library::Expect => {
+            let text = b"call".as_slice();
+            no_call(alloc, environment, text, at, arguments, nothing)
+        }
+        Library::ConstantP => {
+            let text = b"__builtin_constant_p".as_slice();
+            Ok(outside_of(environment, text, at, nothing))
+        }
+        Library::ObjectSize => {
+            let text = b"__builtin_object_size".as_slice();
+            Ok(outside_of(environment, text, at, nothing))
+        }
+    }
 }
 
 // What is known of the type whose size an expression is.
