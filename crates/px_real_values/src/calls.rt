@@ -15,7 +15,7 @@ use std::alloc::Global;
 
 // Whether there are as many arguments as parameters, or more where it takes more.
 pub fn fits(signature: Signature, count: usize) -> bool
-    ensures { (xs : List Rules.Given) → length xs ≡ count → result ≡ Rules.fits signature.parameters.now signature.takes_more xs }
+    ensures { (xs : List Rules.Given) → length xs ≡ count → result ≡ Rules.fits signature.entry.parameters.now signature.entry.takes_more xs }
 {
     if signature.takes_more {
         signature.parameters.len() <= count
@@ -55,7 +55,7 @@ pub fn gives<'a, E: Environment>(
     at: Site,
     arguments: Vec<TypedExpression>,
 ) -> Result<Operand<'a>, NoMemory>
-    ensures { IfOk result (λ a. operand_seen a ≡ Rules.gives (E.sees environment.now) (signature_seen signature) at (T.expressions_of (map typed_expression arguments.items)) signature.result) }
+    ensures { IfOk result (λ a. operand_seen a ≡ Rules.gives (E.sees environment.now) (signature_seen signature.entry) at (T.expressions_of (map typed_expression arguments.items)) signature.entry.result) }
 {
     let proc = signature.proc;
     match signature.result {

@@ -20,4 +20,4 @@ pub use known::{Known, Member};
 pub use laws::{types_are_spelled, worked_values};
 pub use operand::Operand;
 pub use spelling::type_spelled;
-pub use values::operand;
+pub use values::evaluate;

@@ -31,6 +31,8 @@ use px_terms::NoMemory;
 use std::alloc::Global;
 
 // The first token of an expression.
+#[cycle(first_site)]
+#[tactic(auto, using(px_real_reading::proofs::TreeEquations::trees))]
 fn first_site(expression: &Expression) -> Site
     ensures { (all : List Lexeme) → result ≡ Rules.first_site (expression_tree all expression.now) }
 {
@@ -56,6 +58,8 @@ fn first_site(expression: &Expression) -> Site
 }
 
 // Whether it is the constant 0, in parentheses or not.
+#[cycle(is_zero)]
+#[tactic(auto, using(px_real_reading::proofs::TreeEquations::trees))]
 fn is_zero(expression: &Expression) -> bool
     ensures { (all : List Lexeme) → result ≡ Rules.is_zero (expression_tree all expression.now) }
 {
@@ -211,7 +215,8 @@ fn chosen<'a, E: Environment>(
 
 /// What an expression is to the profile.
 #[cycle(operand)]
-pub fn operand<'a, E: Environment>(
+#[tactic(auto, using(px_real_reading::proofs::TreeEquations::trees))]
+pub fn evaluate<'a, E: Environment>(
     alloc: Global,
     environment: &'a E,
     expression: &Expression,
@@ -233,7 +238,7 @@ pub fn operand<'a, E: Environment>(
             *site,
             Vec::new(alloc),
         )),
-        Expression::Parenthesised { inner, .. } => operand(alloc, environment, inner),
+        Expression::Parenthesised { inner, .. } => evaluate(alloc, environment, inner),
         Expression::Statement { site, .. } | Expression::Literal { site, .. } => {
             Ok(held(alloc, environment, *site))
         }
@@ -245,7 +250,7 @@ pub fn operand<'a, E: Environment>(
             before,
             last,
         } => {
-            let start = operand(alloc, environment, first)?;
+            let start = evaluate(alloc, environment, first)?;
             let left = suffixes(alloc, environment, before, start)?;
             suffix(alloc, environment, last, left)
         }
@@ -254,7 +259,7 @@ pub fn operand<'a, E: Environment>(
             site,
             operand: inner,
         } => {
-            let inner = operand(alloc, environment, inner)?;
+            let inner = evaluate(alloc, environment, inner)?;
             prefixed(alloc, environment, *operator, *site, inner)
         }
         Expression::Label { site, .. } => Ok(outside_of(
@@ -275,7 +280,7 @@ pub fn operand<'a, E: Environment>(
             type_name,
             operand: inner,
         } => {
-            let inner = operand(alloc, environment, inner)?;
+            let inner = evaluate(alloc, environment, inner)?;
             cast(alloc, environment, *type_name, *site, inner)
         }
         Expression::Binary {
@@ -285,7 +290,7 @@ pub fn operand<'a, E: Environment>(
             site,
             right,
         } => {
-            let start = operand(alloc, environment, first)?;
+            let start = evaluate(alloc, environment, first)?;
             let left = links(alloc, environment, before, start)?;
             linked(alloc, environment, *operator, *site, left, right)
         }
@@ -295,7 +300,7 @@ pub fn operand<'a, E: Environment>(
         | Expression::ChoiceOr {
             site, condition, ..
         } => {
-            let condition = operand(alloc, environment, condition)?;
+            let condition = evaluate(alloc, environment, condition)?;
             chosen(alloc, environment, *site, condition)
         }
         Expression::Assign {
@@ -304,7 +309,7 @@ pub fn operand<'a, E: Environment>(
             left,
             ..
         } => {
-            let left = operand(alloc, environment, left)?;
+            let left = evaluate(alloc, environment, left)?;
             let parts = left.pointer_parts(alloc, environment)?;
             Ok(stopped_at(
                 environment,
@@ -389,7 +394,7 @@ fn with_suffix<'a, E: Environment>(
 {
     match suffix {
         Suffix::Index { site, index } => {
-            let parts = operand(alloc, environment, index)?.parts(alloc, environment)?;
+            let parts = evaluate(alloc, environment, index)?.parts(alloc, environment)?;
             indexed(alloc, environment, is_zero(index), *site, parts, left)
         }
         Suffix::Call { site, arguments } => {
@@ -447,7 +452,7 @@ fn no_call<'a, E: Environment>(
 {
     let mut all = before;
     for i in 0..arguments.len() {
-        let argument = operand(alloc, environment, &arguments[i])?;
+        let argument = evaluate(alloc, environment, &arguments[i])?;
         let mut parts = argument.parts(alloc, environment)?;
         all.append(&mut parts)?;
     }
@@ -472,7 +477,7 @@ fn function_call<'a, E: Environment>(
     let mut all = Vec::with_capacity(alloc, arguments.len())?;
     let mut all_passed = true;
     for i in 0..arguments.len() {
-        let given = operand(alloc, environment, &arguments[i])?;
+        let given = evaluate(alloc, environment, &arguments[i])?;
         match parameter(signature, i) {
             Some(kind) => {
                 let first = first_site(&arguments[i]);
@@ -496,7 +501,7 @@ fn function_call<'a, E: Environment>(
 
 // The type of a parameter of the profile; others, and what there is beyond them, are erased.
 fn parameter(signature: Signature, at: usize) -> Option<ProfileType>
-    ensures { result ≡ get_or signature.parameters.now at None }
+    ensures { result ≡ get_or signature.entry.parameters.now at None }
 {
     match signature.parameters.get(at) {
         Some(parameter) => *parameter,
@@ -541,7 +546,7 @@ fn library_call<'a, E: Environment>(
             site: at,
             value: TypedExpression::GetChar { site: at },
         }),
-        Library::Expect if arguments.len() == 2 => operand(alloc, environment, &arguments[0]),
+        Library::Expect if arguments.len() == 2 => evaluate(alloc, environment, &arguments[0]),
         Library::GetChar | Library::Expect => {
             let text = b"call".as_slice();
             no_call(alloc, environment, text, at, arguments, nothing)
@@ -559,6 +564,7 @@ fn library_call<'a, E: Environment>(
 
 // What is known of the type whose size an expression is.
 #[cycle(operand)]
+#[tactic(auto, using(px_real_reading::proofs::TreeEquations::trees))]
 fn measured<'a, E: Environment>(
     alloc: Global,
     environment: &'a E,
@@ -573,7 +579,7 @@ fn measured<'a, E: Environment>(
             operand: inner,
             ..
         } => {
-            let inner = operand(alloc, environment, inner)?;
+            let inner = evaluate(alloc, environment, inner)?;
             Ok(Some(inner.known()))
         }
         Expression::MeasureType {
@@ -647,7 +653,7 @@ fn linked<'a, E: Environment>(
     match left.turn(alloc)? {
         Turn::Stops(stopped) => Ok(stopped),
         Turn::GoesOn(left) => {
-            let right = operand(alloc, environment, right)?;
+            let right = evaluate(alloc, environment, right)?;
             binary(alloc, environment, operator, site, left, right)
         }
     }
