@@ -76,6 +76,12 @@ abbrev pub typed_value : Operand → Option (ProfileType × Expression)
 typed_value (of_type t site e) = Some (t, e)
 typed_value _ = None
 
+-- the pointer to what an expression has the value of
+abbrev pub pointer_in : Expression → List Expression
+pointer_in (T.local n site) = []
+pointer_in (T.cell e field block site) = e ∷ []
+pointer_in e = e ∷ []
+
 module _ (env : Environment) where
   abbrev pub malloc_word : ℕ
   malloc_word = env.word_number (codes "malloc")
@@ -98,12 +104,6 @@ module _ (env : Environment) where
   parts (stopped ps word site) = stop ps word site ∷ []
 
   -- ---- where an address is taken
-
-  -- the pointer to what an expression has the value of
-  abbrev pub pointer_in : Expression → List Expression
-  pointer_in (T.local n site) = []
-  pointer_in (T.cell e field block site) = e ∷ []
-  pointer_in e = e ∷ []
 
   -- what the pointer to an object needs: no access of the object itself
   abbrev pub pointer_parts : Operand → List Expression

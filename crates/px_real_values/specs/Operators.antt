@@ -64,6 +64,20 @@ abbrev pub measure_text : Measure → List ℕ
 measure_text M.Size = codes "sizeof"
 measure_text M.Alignment = codes "_Alignof"
 
+-- ---- types of operands
+
+-- the type at which `==` and `!=` compare: that of an operand that has one of its own
+abbrev pub common_type : Operand → Operand → ProfileType
+common_type (of_type t site e) b = t
+common_type a (of_type t site e) = t
+common_type (a_null word site) b = pointer_to int
+common_type a (a_null word site) = pointer_to int
+common_type a b = int
+
+-- the number of the struct that a pointer points to
+abbrev pub struct_behind : ProfileType → Option ℕ
+struct_behind t = or_else (pointee t) number_of None
+
 module _ (env : Environment) where
   -- outside with the parts of these operands, in order, and a `Stop` behind them
   abbrev pub outside_of : List ℕ → Site → List Expression → Operand
@@ -92,14 +106,6 @@ module _ (env : Environment) where
   abbrev pub compared : ProfileType → Relation → Operator → Site → Operand → Operand → Operand
   compared t relation o site a b =
       or_else (typed_both t a b) (λ x. a_test (T.compare relation x.0 x.1 site)) (outside_of (operator_text o) site (parts env a ++ parts env b))
-
-  -- the type at which `==` and `!=` compare: that of an operand that has one of its own
-  abbrev pub common_type : Operand → Operand → ProfileType
-  common_type (of_type t site e) b = t
-  common_type a (of_type t site e) = t
-  common_type (a_null word site) b = pointer_to int
-  common_type a (a_null word site) = pointer_to int
-  common_type a b = int
 
   abbrev pub equated : Relation → Relation → Operator → Site → Operand → Operand → Operand
   equated of_ints of_places o site a b = compared (common_type a b) (if is_pointer (common_type a b) then of_places else of_ints) o site a b
@@ -181,10 +187,6 @@ module _ (env : Environment) where
   member_at n text site e (Some (N.Cell number kind)) = of_type kind site (T.cell e (record { 0 = number }) (type_id env (struct n)) site)
   member_at n text site e (Some (N.Other k)) = a_member k e (type_id env (struct n)) site (env.word_number text) site
   member_at n text site e None = stopped_at text site (e ∷ [])
-
-  -- the number of the struct that a pointer points to
-  abbrev pub struct_behind : ProfileType → Option ℕ
-  struct_behind t = or_else (pointee t) number_of None
 
   -- the member with this name of a struct or union, if it is known which one that is
   abbrev pub member_in : List ℕ → Known → Option (Option Member)
