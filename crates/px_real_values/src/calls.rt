@@ -25,6 +25,7 @@ pub fn fits(signature: Signature, count: usize) -> bool
 }
 
 // What has no effect, where its value isn't read.
+#[tactic(auto, using(px_syntax::proofs::TypedEquations::typed_trees))]
 fn is_silent(expression: &TypedExpression) -> bool
     ensures { result ≡ Rules.is_silent (typed_expression expression.now) }
 {
@@ -48,6 +49,7 @@ pub fn are_silent(expressions: &[TypedExpression]) -> bool
 }
 
 // What a call gives: a value, or outside where the result isn't of the profile.
+#[tactic(auto, using(px_syntax::proofs::TypedEquations::typed_trees))]
 pub fn gives<'a, E: Environment>(
     alloc: Global,
     environment: &E,

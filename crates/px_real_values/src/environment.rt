@@ -83,8 +83,8 @@ pub trait Environment {
         ensures { meaning_seen result ≡ (sees self.now).meaning name.now };
 
     /// The member of this name of a struct or union.
-    fn member(&self, record: u32, name: &[u8]) -> Option<Member>
-        ensures { result ≡ (sees self.now).member record name.now };
+    fn member(&self, number: u32, name: &[u8]) -> Option<Member>
+        ensures { result ≡ (sees self.now).member number name.now };
 
     /// Whether a struct is defined.
     fn is_defined(&self, number: u32) -> bool

@@ -99,6 +99,7 @@ pub fn alone(
 }
 
 // A `Stop`.
+#[tactic(auto, using(px_syntax::proofs::TypedEquations::typed_trees))]
 pub fn stop(parts: Vec<TypedExpression>, word: u32, site: Site) -> TypedExpression
     ensures { typed_expression result ≡ Rules.stop (map typed_expression parts.items) word site }
 {
