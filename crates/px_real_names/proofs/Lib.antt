@@ -1,0 +1,3 @@
+pub mod EnumeratedExact
+pub mod AddLemmas
+pub mod NameLemmas
