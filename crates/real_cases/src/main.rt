@@ -1,15 +1,18 @@
 //! Reads cases of the reading of real C, one a line, and prints what its calls make of each. What it prints must be its `stdout`.
 //!
-//! A line is one of the words `tokens`, `items`, `expression`, `read`, `body`, `declaration`, `member`, `parameter`, `members`, `enumerators`, `parameters`, `head`, `types`, `cells`, `kept`, `fates`
+//! A line is one of the words `tokens`, `items`, `expression`, `read`, `body`, `declaration`, `member`, `parameter`, `members`, `enumerators`, `parameters`, `head`, `names`, `file`, `types`, `cells`, `kept`, `fates`
 //! and `callee`, and a text in the short form of case_texts. In expressions and declarations the words `T`, `list` and `size_t` are names of types; `read` says only whether there is an
-//! expression. `types` says what the profile sees of the types of a declaration, `cells` of those of members, and `kept` of that of a parameter; `fates` and `callee` are of the
+//! expression. `types` says what the profile sees of the types of a declaration, `cells` of those of members, and `kept` of that of a parameter; `names` says of the words
+//! behind a `?` whether they are names of types behind the declarations before it; `file` reads the items of a whole file; `fates` and `callee` are of the
 //! functions of files, which a line spells in a form of its own (src/links.rt).
 #![tactic(auto)]
 
 mod bodies;
 mod declarations;
+mod files;
 mod held;
 mod links;
+mod scopes;
 mod shapes;
 mod trees;
 mod types;
@@ -18,14 +21,17 @@ use anyhow::{Context, Result, bail};
 use bodies::write_statements;
 use case_texts::{FILE, MOST_BYTES, answer_each, expanded, write_site};
 use declarations::write_declaration;
+use files::write_items;
 use held::{write_all, write_enumerators, write_head, write_parameters};
 use links::{callee, fates};
 use px_real_blocks::{BodyFault, body_of};
 use px_real_cutting::{ItemFault, items};
 use px_real_declaring::{Declaration, DeclarationFault, declaration_of, member_of, parameter_of};
+use px_real_items::file_items;
 use px_real_members::{enumerators_of, head_of, members_of, parameters_of};
 use px_real_reading::{ExpressionFault, expression_of};
 use px_real_tokens::{LexFault, Token, TokenKind, lex};
+use scopes::known;
 use shapes::{write_layout, write_parameter, write_seen};
 use std::alloc::Global;
 use std::fmt::Write;
@@ -53,6 +59,8 @@ fn answer(alloc: Global, case: &str) -> Result<String> {
         "enumerators" => enumerators(alloc, &text),
         "parameters" => parameters(alloc, &text),
         "head" => head(alloc, &text),
+        "names" => names(alloc, &text),
+        "file" => file(alloc, &text),
         "fates" => fates(alloc, &text),
         "callee" => callee(alloc, &text),
         "types" => declared(alloc, &text, Declares::Plain, true),
@@ -272,6 +280,31 @@ fn parameters(alloc: Global, text: &str) -> Result<String> {
     match parameters_of(alloc, text.as_bytes(), &tokens, &SomeTypes) {
         Ok(parameters) => write_parameters(&parameters, &mut out, text, &tokens)?,
         Err(fault) => write_declaration_fault(&mut out, &tokens, fault)?,
+    }
+    Ok(out)
+}
+
+// Which of the words behind a `?` are names of types.
+fn names(alloc: Global, text: &str) -> Result<String> {
+    let (declarations, words) = text.split_once('?').context("no words")?;
+    let tokens = tokens_of(alloc, declarations)?;
+    known(alloc, declarations, &tokens, words)
+}
+
+// The items of a file that a text is, or the fault.
+fn file(alloc: Global, text: &str) -> Result<String> {
+    let tokens = tokens_of(alloc, text)?;
+    if tokens.len() > MOST_BYTES {
+        bail!("many tokens");
+    }
+    let mut out = String::new(alloc);
+    match file_items(alloc, text.as_bytes(), &tokens) {
+        Ok((items, _names)) => write_items(&items, &mut out, text, &tokens)?,
+        Err(ItemFault::Unbalanced(site)) => {
+            write!(out, "unbalanced")?;
+            write_site(&mut out, site)?;
+        }
+        Err(ItemFault::NoMemory) => bail!("no memory"),
     }
     Ok(out)
 }

@@ -1,0 +1,4 @@
+pub mod Ends
+pub mod Externals
+pub mod Trees
+pub mod Files
