@@ -75,10 +75,16 @@ pub fn is_outside(text: &[u8]) -> bool
         || text == b"calloc".as_slice()
 }
 
-// The terminal that the word is.
+// The terminal that the word is. The words that aren't names have two to eight letters.
 fn word_terminal(text: &[u8]) -> Terminal
     ensures { result ≡ word_terminal text.now }
 {
+    if text.len() < 2 {
+        return Terminal::Name;
+    }
+    if text.len() > 8 {
+        return Terminal::Name;
+    }
     match keyword_of(text) {
         Some(terminal) => terminal,
         None => {

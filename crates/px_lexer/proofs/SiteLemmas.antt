@@ -1,5 +1,5 @@
 -- The lines of a source give the site of each of its bytes.
-use Rattle.std.proofs.Common.{◌≡◌, ◌==◌, not, ℕ, zero, suc, ◌+◌, ◌<◌, ◌≤◌, Bool, true, false, cond, List, [], ◌∷◌, ◌++◌, length, take, drop, refl, sym, ap, ap₂, subst, ◌∙◌, append_assoc, append-nil, get_or, leb, leb-true, arith}
+use Rattle.std.proofs.Common.{◌≡◌, ◌==◌, not, ℕ, zero, suc, ◌+◌, ◌-◌, ◌<◌, ◌≤◌, Bool, true, false, cond, List, [], ◌∷◌, ◌++◌, length, take, drop, refl, sym, ap, ap₂, subst, ◌∙◌, append_assoc, append-nil, get_or, leb, leb-true, arith}
 use Rattle.std.specs.Prelude.{count_by, nat_le, slice_index}
 use Rattle.std.specs.List.{prefix_len, suffix_len}
 use Rattle.std.specs.List.Sorted.{IsStrictlyIncreasing, IsNonDecreasing, IsPartitionedBy, IsPartitionPoint}
@@ -154,3 +154,28 @@ line_is starts at line h le point =
     before : (i : ℕ) → i ≤ length starts → ((k : ℕ) → k < i → leb (get_or starts k 0) at ≡ true) → slice_index (0 ∷ starts) i ≤ at
     before zero le all = omega arith
     before (suc i) le all = leb-true (get_or starts i 0) at (all i (omega arith))
+
+-- ---- a line that is looked at first
+
+climbs : (starts : List ℕ) → IsStrictlyIncreasing (0 ∷ starts) → (i d : ℕ) → i + d ≤ length starts → slice_index (0 ∷ starts) i ≤ slice_index (0 ∷ starts) (i + d)
+climbs starts h i zero le = let e : i + 0 ≡ i = omega arith in omega (arith, ap (slice_index (0 ∷ starts)) e)
+climbs starts h i (suc d) le =
+    let e : i + suc d ≡ i + d + 1 = omega arith in
+    omega (arith, climbs starts h i d (omega (arith, le)), h (i + d) (omega (arith, le)), ap (slice_index (0 ∷ starts)) e)
+
+-- a byte stands on the line that has begun where the next hasn't
+pub on_line : (starts : List ℕ) (at line : ℕ) → IsStrictlyIncreasing (0 ∷ starts) → line ≤ length starts → slice_index (0 ∷ starts) line ≤ at → (line < length starts → at < slice_index starts line) →
+    line ≡ lines_before starts at
+on_line starts at line h le begun before = sym (prefix_len_is (λ start. nat_le start at) starts line 0 le (λ k lt. earlier k lt) (λ lt. later lt))
+  where
+    earlier : (k : ℕ) → k < line → nat_le (get_or starts k 0) at ≡ true
+    earlier k lt =
+        let e : suc k + (line - suc k) ≡ line = omega (arith, lt) in
+        let up : slice_index (0 ∷ starts) (suc k) ≤ at = omega (arith, climbs starts h (suc k) (line - suc k) (omega (arith, lt, le)), ap (slice_index (0 ∷ starts)) e, begun) in
+        grind (arith, nat_tests, up)
+
+    later : line < length starts → nat_le (get_or starts line 0) at ≡ false
+    later lt = let over : at < slice_index starts line = before lt in grind (arith, nat_tests, over)
+
+pub on_few : (starts : List ℕ) (at line : ℕ) → IsStrictlyIncreasing (0 ∷ starts) → line ≤ length starts → slice_index (0 ∷ starts) line ≤ at → line ≤ at
+on_few starts at line h le there = omega (arith, there, begun starts h line le)

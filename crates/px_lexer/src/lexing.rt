@@ -30,7 +30,7 @@ pub fn lex(alloc: Global, source: &[u8], file: u32) -> Result<Tokens, LexFault>
     let mut rest = source;
     while !rest.is_empty() {
         let Some((piece, count)) = piece_at(fresh, rest) else {
-            return Err(LexFault::Byte(lines.site(start as u32)));
+            return Err(LexFault::Byte(lines.site(0, start as u32)));
         };
         let end = start + count;
         put(&mut kept, piece, &lines, start as u32, end as u32)?;
@@ -57,12 +57,28 @@ fn put(
     ensures fault { IfErr result (λ e. e ≢ NoMemory → fault_of piece (site_at lines.now.file lines.now.starts.items start) ≡ Some e) }
 {
     match piece {
-        Piece::Token(kind) => kept.push(KeptToken { kind, start, end })?,
+        Piece::Token(kind) => {
+            let near = lines.near(last_near(kept), start);
+            kept.push(KeptToken {
+                kind,
+                near,
+                start,
+                end,
+            })?;
+        }
         Piece::Space => {}
-        Piece::LargeConstant => return Err(LexFault::Constant(lines.site(start))),
-        Piece::OpenComment => return Err(LexFault::Comment(lines.site(start))),
+        Piece::LargeConstant => return Err(LexFault::Constant(lines.site(0, start))),
+        Piece::OpenComment => return Err(LexFault::Comment(lines.site(0, start))),
     }
     Ok(())
+}
+
+// The line at which the last token is looked for first, or the first of all.
+fn last_near(kept: &[KeptToken]) -> u16 {
+    match kept.last() {
+        Some(token) => token.near,
+        None => 0,
+    }
 }
 
 // Whether nothing but blanks and comments stands on the line before the place after the piece.

@@ -10,7 +10,8 @@ use std::marker::Model;
 
 /// The tokens of a source, in order. Contracts see the list of them.
 ///
-/// Each takes 12 bytes: its site is worked out from the lines of the source where it is asked for.
+/// Each takes 12 bytes: its site is worked out from the lines of the source where it is asked for, of which the one is
+/// looked at first that the token most often stands on.
 #[derive(Drop)]
 pub struct Tokens {
     pub(crate) lines: Lines,
@@ -158,10 +159,10 @@ impl LentToken<'_> {
         self.kept.end
     }
 
-    /// The site of its first byte, by a search among the lines.
+    /// The site of its first byte, by a search among the lines where the one that is looked at first isn't its own.
     pub fn site(self) -> Site
         ensures { result ≡ (as_token self.entry).site }
     {
-        self.lines.site(self.kept.start)
+        self.lines.site(self.kept.near, self.kept.start)
     }
 }

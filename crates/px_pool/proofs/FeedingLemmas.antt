@@ -7,19 +7,18 @@ use Rattle.px_wire.specs.Messages.{MessageTree, reply, large, Spells}
 use Rattle.px_parts.specs.declared.part.Part.{Part}
 use Rattle.px_parts.specs.declared.part.Part.TheVariants as P
 use Rattle.px_parts.specs.declared.part.Taken.{Taken}
-use Rattle.px_parts.specs.Parts.{parts_of, IsReplying}
+use Rattle.px_parts.specs.Parts.{IsReplying}
 use Rattle.px_parts.specs.Laws.{IsWhole}
-use Rattle.px_parts.specs.Taking.{Waiting, waits, IsTaken}
+use Rattle.px_parts.specs.Taking.{Waiting, IsTaken}
 use Rattle.px_parts.specs.Following.{HasGiven}
 use Rattle.px_parts.proofs.Following.{parts_follow}
 use Rattle.px_pieces.specs.declared.desk.Lost.{Lost}
-use Rattle.px_pieces.specs.declared.desk.Lost.TheVariants.{Frame, NoMemory}
+use Rattle.px_pieces.specs.declared.desk.Lost.TheVariants.{Frame}
 use Rattle.px_pool.specs.declared.answers.Answer.{Answer}
 use Rattle.px_pool.specs.declared.gathering.Standing.{Standing}
-use Rattle.px_pool.specs.declared.gathering.Standing.TheVariants as S
 use Rattle.px_pool.specs.declared.feeding.Fed.{Fed}
 use Rattle.px_pool.specs.declared.feeding.Fed.TheVariants as F
-use Rattle.px_pool.specs.Outcomes.{NamesTicket, IsFaultIn}
+use Rattle.px_pool.specs.Outcomes.{NamesTicket}
 use Rattle.px_pool.specs.Gathering.{IsStanding, IsOutcome, Tells, IsFed}
 
 -- a part that is neither none nor the end

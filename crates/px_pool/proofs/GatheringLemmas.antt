@@ -1,5 +1,5 @@
 -- What is known of a reply, part by part.
-use Rattle.std.proofs.Common.{◌≡◌, ◌≢◌, inl, inr, ℕ, zero, suc, ◌+◌, ◌<◌, ◌≤◌, List, [], ◌∷◌, ◌++◌, length, map, Option, Some, None, Result, Ok, Err, refl, sym, ap, subst, ◌∙◌, append_assoc, append-nil, arith}
+use Rattle.std.proofs.Common.{◌≡◌, ◌≢◌, inl, inr, ℕ, zero, suc, ◌+◌, ◌<◌, List, [], ◌∷◌, ◌++◌, length, map, Option, Some, None, Result, Ok, Err, refl, sym, ap, subst, ◌∙◌, append_assoc, append-nil, arith}
 use Rattle.std.specs.Prelude.{IfOk, OnOk, IfNone}
 use Rattle.std.proofs.lemmas.List.{length-append, map_push, length-map}
 use Rattle.px_entry.specs.declared.derivations.Derivation.{Derivation}
@@ -13,20 +13,19 @@ use Rattle.px_check.specs.Answers.{entry_of, job_of}
 use Rattle.px_wire.specs.Messages.{MessageTree, reply, large, Spells, Replies}
 use Rattle.px_parts.specs.declared.part.Part.{Part}
 use Rattle.px_parts.specs.declared.part.Part.TheVariants as P
-use Rattle.px_parts.specs.Parts.{table_parts, parts_of, IsReplying}
+use Rattle.px_parts.specs.Parts.{parts_of, IsReplying}
 use Rattle.px_pieces.specs.declared.desk.Lost.{Lost}
-use Rattle.px_pieces.specs.declared.desk.Lost.TheVariants.{Send, Read, Closed, Frame, Ticket, Kinds, Refused, Large, NoMemory}
+use Rattle.px_pieces.specs.declared.desk.Lost.TheVariants.{Frame, Ticket, Kinds, Refused, Large, NoMemory}
 use Rattle.px_pieces.specs.Pieces.{AreOf, table_from}
-use Rattle.px_pool.specs.declared.answers.Answer.{Answer}
 use Rattle.px_pool.specs.declared.judging.Refusal.{Refusal}
 use Rattle.px_pool.specs.declared.gathering.Gathering.{Gathering}
 use Rattle.px_pool.specs.declared.gathering.Standing.{Standing}
 use Rattle.px_pool.specs.declared.gathering.Standing.TheVariants as S
-use Rattle.px_pool.specs.Derived.{AreDerived, FailsAt, FirstFails, AreRefused}
+use Rattle.px_pool.specs.Derived.{AreDerived, FailsAt, FirstFails}
 use Rattle.px_pool.specs.Checks.{AreChecked, IsRefusal}
-use Rattle.px_pool.specs.Outcomes.{NamesTicket, GivesTable, IsFaultIn}
-use Rattle.px_pool.specs.Gathering.{entry_in, entries_in, drop_in, drops_in, derivation_in, derivations_in, AreJudged, JudgesNext, IsGathered, IsOpen, IsLostBy, IsGatheredOn, IsStanding, IsOutcome, Tells}
-use Rattle.px_pool.proofs.PartLists.{entries_more, drops_more, derivations_more, IsTableOf, table_of, entries_before, more_derivations, sort_of, of_head, of_large, of_no_other, of_nothing}
+use Rattle.px_pool.specs.Outcomes.{GivesTable, IsFaultIn}
+use Rattle.px_pool.specs.Gathering.{entry_in, entries_in, drop_in, drops_in, derivation_in, derivations_in, AreJudged, JudgesNext, IsGathered, IsOpen, IsLostBy, IsGatheredOn, IsStanding, Tells}
+use Rattle.px_pool.proofs.PartLists.{entries_more, drops_more, derivations_more, table_of, entries_before, more_derivations, sort_of, of_head, of_large, of_no_other, of_nothing}
 
 -- none, where it isn't one
 pub none_is : {A : Type 0} (o : Option A) (P : Type 0) → ((x : A) → o ≡ Some x → ⊥) → IfNone o P → P

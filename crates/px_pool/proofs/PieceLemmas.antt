@@ -1,5 +1,5 @@
 -- A message that is read piece by piece, after its length and after a frame that was sent.
-use Rattle.std.proofs.Common.{◌≡◌, inl, inr, refl, sym, ap, subst, ◌∙◌, arith, ℕ, ◌+◌, ◌-◌, ◌<◌, ◌≤◌, List, [], ◌++◌, length, Bool, true, false, append-nil, length-take-le}
+use Rattle.std.proofs.Common.{◌≡◌, inl, inr, refl, sym, ap, subst, ◌∙◌, arith, ℕ, ◌+◌, ◌-◌, ◌<◌, ◌≤◌, List, [], ◌++◌, length, true, false, append-nil, length-take-le}
 use Rattle.std.specs.Prelude.{Option, take, nat_eq, Result, Ok, Err, OnOk, OnErr}
 use Rattle.std.specs.Int.{w32, to_be_bytes}
 use Rattle.std.proofs.lemmas.Bool.{ne_eqb}
@@ -20,8 +20,8 @@ use Rattle.px_pool.specs.declared.answers.Answer.{Answer}
 use Rattle.px_pool.specs.declared.gathering.Standing.TheVariants.{Unbegun}
 use Rattle.px_pool.specs.declared.feeding.Fed.{Fed}
 use Rattle.px_pool.specs.Talks.{Talk, Passes, nothing, sends, SendsPart}
-use Rattle.px_pool.specs.Outcomes.{request_of, gave, IsFaultIn, GivesTable, CountsFaults}
-use Rattle.px_pool.specs.Reading.{Gives, GivesFewer, Unanswered, StopsIn, IsRead, GivesMessage, IsReplied}
+use Rattle.px_pool.specs.Outcomes.{request_of, gave, GivesTable, CountsFaults}
+use Rattle.px_pool.specs.Reading.{Gives, Unanswered, StopsIn, IsRead, GivesMessage, IsReplied}
 use Rattle.px_pool.specs.Gathering.{IsStanding, IsOutcome, IsFed}
 use Rattle.px_pool.proofs.LinkTalks.{passes_nothing}
 use Rattle.px_pool.proofs.TalkLemmas.{gives_on, gives_no_more, sent_then}

@@ -1,5 +1,5 @@
 -- One frame that is read, or the part of one, after a frame that was sent.
-use Rattle.std.proofs.Common.{◌≡◌, refl, sym, ap, subst, ◌∙◌, arith, inr, ℕ, zero, suc, ◌+◌, ◌<◌, ◌≤◌, List, [], ◌++◌, length, true, false, take_all, le_refl}
+use Rattle.std.proofs.Common.{◌≡◌, refl, sym, ap, subst, ◌∙◌, arith, inr, ℕ, zero, suc, ◌<◌, ◌≤◌, List, [], ◌++◌, length, true, false, take_all, le_refl}
 use Rattle.std.specs.Prelude.{Option, take, nat_lt, Result, Ok, Err, IsErrOf}
 use Rattle.std.specs.Int.{w32, to_be_bytes}
 use Rattle.std.proofs.lemmas.Bool.{le-ltb}

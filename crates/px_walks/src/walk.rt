@@ -9,7 +9,8 @@ use px_calls::Call;
 #[derive(Drop)]
 pub struct Walk<'a> {
     pub state: State,
-    pub(crate) call: Option<Call<'a>>,
+    // In a box, since most walks are handed on with no call going on.
+    pub(crate) call: Option<Box<Call<'a>>>,
     // The next piece stands last.
     pub(crate) control: Vec<Piece<'a>>,
     pub ghost few: { length state.atoms < 2 ^ 32 },

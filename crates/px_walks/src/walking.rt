@@ -9,11 +9,13 @@ ghost use Rattle.px_callgraph.specs.Outcomes.{map_next};
 ghost use Rattle.px_callgraph.specs.Derivations as derivations;
 ghost use Rattle.px_callgraph.specs.declared.states.Way.TheVariants as variant;
 ghost use Rattle.px_ways.specs.Listed.{lists};
+ghost use Rattle.px_callgraph.specs.declared.states.State.{State as StateOf};
+ghost use Rattle.px_callgraph.specs.Alternatives.{after_command};
 ghost use Rattle.px_calls.specs.Calls.{call_of, called, with_call, IsFewCalled};
 ghost use Rattle.px_steps.specs.Led.{IsFew};
 ghost use Rattle.px_walks.specs.Items.{turns_of, part_of, end_of, items_of};
 ghost use Rattle.px_walks.specs.Nexts.{IsNext};
-ghost use Rattle.px_walks.specs.Walks.{walk_of, leads_of};
+ghost use Rattle.px_walks.specs.Walks.{walk_of, leads_of, call_in};
 
 use crate::after::{go_after, is_in_place};
 use crate::control::{Upcoming, next, put_part, take_next};
@@ -28,13 +30,38 @@ use px_ways::command_ways;
 use std::alloc::Global;
 
 // A copy of the call that is going on, if one is.
-fn copy_call<'a>(alloc: Global, call: &Option<Call<'a>>) -> Result<Option<Call<'a>>, NoMemory>
-    ensures { IfOk result (λ copy. option_map call_of copy ≡ option_map call_of call.now) }
+fn copy_call<'a>(
+    alloc: Global,
+    call: &Option<Box<Call<'a>>>,
+) -> Result<Option<Box<Call<'a>>>, NoMemory>
+    ensures { IfOk result (λ copy. option_map call_of (call_in copy) ≡ option_map call_of (call_in call.now)) }
 {
-    Ok(match call {
-        None => None,
-        Some(call) => Some(px_calls::copy_call(alloc, call)?),
-    })
+    match call {
+        None => Ok(None),
+        Some(call) => boxed(alloc, Some(px_calls::copy_call(alloc, call)?)),
+    }
+}
+
+// A call, if there is one, in a box.
+fn boxed<'a>(alloc: Global, call: Option<Call<'a>>) -> Result<Option<Box<Call<'a>>>, NoMemory>
+    ensures { IfOk result (λ kept. call_in kept ≡ call.entry) }
+{
+    match call {
+        None => Ok(None),
+        Some(call) => Ok(Some(Box::new(alloc, call)?)),
+    }
+}
+
+// The call that a command begins, if it is one.
+fn entered<'a>(
+    alloc: Global,
+    state: &State,
+    command: &Command,
+) -> Result<Option<Box<Call<'a>>>, NoMemory>
+    ensures { IfOk result (λ call. (k : List Item) (t : StateOf) → after_command state.now (command_tree command.now) k t ≡ with_call (call_in call) k t) }
+{
+    let call = enter(alloc, state, command)?;
+    boxed(alloc, call)
 }
 
 /// A walk that stands where this one does.
@@ -144,11 +171,11 @@ pub fn is_listed(alloc: Global, job: &Job, walk: &Walk, way: Way) -> Result<bool
 // Goes on with this call, if one was entered, and then with what is still to be done, where the path goes on.
 fn go_on<'a>(
     led: StepOutcome<State>,
-    call: Option<Call<'a>>,
+    call: Option<Box<Call<'a>>>,
     control: Vec<Piece<'a>>,
 ) -> StepOutcome<Walk<'a>>
     requires { IsFew led }
-    ensures { leads_of result ≡ map_next (with_call call.entry (items_of control.entry.items)) led }
+    ensures { leads_of result ≡ map_next (with_call (call_in call.entry) (items_of control.entry.items)) led }
 {
     match led {
         StepOutcome::Next(state) => StepOutcome::Next(Walk {
@@ -175,7 +202,7 @@ pub fn act_command<'a>(
 {
     let mut control = control;
     if go_after(&state, command, &mut control)? {
-        let call = enter(alloc, &state, command)?;
+        let call = entered(alloc, &state, command)?;
         let led = command_act(alloc, job, state, command, way)?;
         Ok(go_on(led, call, control))
     } else {
@@ -266,21 +293,25 @@ fn act_control<'a>(
 
 // Goes on with the call, or after it with what is still to be done.
 fn go_on_calling<'a>(
+    alloc: Global,
     to: StepOutcome<CallProgress<'a>>,
     control: Vec<Piece<'a>>,
-) -> StepOutcome<Walk<'a>>
+) -> Result<StepOutcome<Walk<'a>>, NoMemory>
     requires { IsFewCalled to }
-    ensures { leads_of result ≡ called (items_of control.entry.items) to.entry }
+    ensures { IfOk result (λ on. leads_of on ≡ called (items_of control.entry.items) to.entry) }
 {
     match to {
-        StepOutcome::Next(CallProgress { state, call }) => StepOutcome::Next(Walk {
-            state,
-            call,
-            control,
-        }),
-        StepOutcome::Ends(state, exit, result) => StepOutcome::Ends(state, exit, result),
-        StepOutcome::Cut(state, gap) => StepOutcome::Cut(state, gap),
-        StepOutcome::Past(state) => StepOutcome::Past(state),
+        StepOutcome::Next(CallProgress { state, call }) => {
+            let call = boxed(alloc, call)?;
+            Ok(StepOutcome::Next(Walk {
+                state,
+                call,
+                control,
+            }))
+        }
+        StepOutcome::Ends(state, exit, result) => Ok(StepOutcome::Ends(state, exit, result)),
+        StepOutcome::Cut(state, gap) => Ok(StepOutcome::Cut(state, gap)),
+        StepOutcome::Past(state) => Ok(StepOutcome::Past(state)),
     }
 }
 
@@ -302,8 +333,8 @@ pub fn act<'a>(
     match call {
         None => act_control(alloc, job, state, control, way),
         Some(call) => {
-            let to = call_act(alloc, job, state, call, way)?;
-            Ok(go_on_calling(to, control))
+            let to = call_act(alloc, job, state, Box::into_inner(call), way)?;
+            go_on_calling(alloc, to, control)
         }
     }
 }

@@ -1,4 +1,4 @@
-use Rattle.std.proofs.Common.{rules, refl, ◌∙◌, arith, ◌+◌}
+use Rattle.std.proofs.Common.{rules, refl, ◌∙◌, ◌+◌}
 use Rattle.px_callgraph.specs.JobTree.{job_tree}
 use Rattle.px_pool.specs.Talks.{Passes, nothing}
 use Rattle.px_pool.proofs.PieceLemmas.{coming_begins, piece_more, failed, closed, whole, whole_counts, on_error, error_counts}
