@@ -1,0 +1,2 @@
+pub mod WorkedByReading
+pub mod NearestLemmas
