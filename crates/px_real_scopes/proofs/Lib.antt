@@ -1,0 +1,3 @@
+pub mod WorkedByReading
+pub mod NearestLemmas
+pub mod KeyLemmas
