@@ -21,7 +21,7 @@ use Rattle.px_real_scopes.specs.Knowing.{type_word, specified_known}
 use Rattle.px_real_scopes.specs.Entering.{with_specifiers}
 use Rattle.px_real_scopes.specs.Behind.{with_name, declared_meaning, declares_none}
 use Rattle.px_real_effects.specs.Effects.{evaluated}
-use Rattle.px_real_bodies.specs.Places.{Function, Place, in_scopes, with_one_local, Walk}
+use Rattle.px_real_bodies.specs.Places.{Function, Place, in_scopes, with_one_local, Walk, without_statements}
 use Rattle.px_real_bodies.specs.Phrases.{expression_in, no_place}
 use Rattle.px_real_bodies.specs.Values.{env, separated, listed, unread_at, initialiser_parts}
 
@@ -105,8 +105,8 @@ module _ (f : Function) where
 
   -- the type of a local of the profile
   abbrev pub local_type : List SpecifierTree → List ℕ → MeaningTree → Option ProfileType
-  local_type ss name (an_object k word) = if is_stored ss || f.is_addressed name then None else in_profile (seen k)
-  local_type ss name _ = None
+  local_type ss text (an_object k word) = if is_stored ss || f.is_addressed text then None else in_profile (seen k)
+  local_type ss text _ = None
 
   -- an object that isn't one, which begins anew with each execution of its block
   abbrev pub is_automatic : List SpecifierTree → MeaningTree → Bool
@@ -122,7 +122,7 @@ module _ (f : Function) where
       only_of (x ∷ [] ∷ []) = x
       only_of _ = []
       only_item : List Lexeme → List Lexeme
-      only_item inner = only_of (separated 0 inner)
+      only_item between = only_of (separated 0 between)
 
   abbrev pub begun_with : Scopes → ProfileType → Option (List Lexeme) → Option Expression
   begun_with st t None = None
@@ -135,20 +135,17 @@ module _ (f : Function) where
 
   -- a local, in scope in its own initialiser (6.2.1)
   abbrev pub with_local_of : Place → List ℕ → ProfileType → Option (List Lexeme) → Walk
-  with_local_of at name t value =
-      let after = with_one_local (env f at.scopes) name t at in record { trees = T.declare at.next (begun_with after.scopes t value) ∷ []; after = after }
+  with_local_of at text t value =
+      let after = with_one_local (env f at.scopes) text t at in record { trees = T.declare at.next (begun_with after.scopes t value) ∷ []; after = after }
 
   abbrev pub with_other : Place → List SpecifierTree → List ℕ → MeaningTree → Option (List Lexeme) → Walk
-  with_other at ss name m value =
-      let after = in_scopes at (with_name (Some name) m at.scopes) in record { trees = evaluated (parts_if (is_automatic ss m) after.scopes value); after = after }
+  with_other at ss text m value =
+      let after = in_scopes at (with_name (Some text) m at.scopes) in record { trees = evaluated (parts_if (is_automatic ss m) after.scopes value); after = after }
 
   abbrev pub with_named : Place → List SpecifierTree → Known → DeclaredTree → List ℕ → Walk
-  with_named at ss k x name =
+  with_named at ss k x text =
       let m = declared_meaning at.scopes (is_typedef ss) k (type_word ss) x in
-      or_else (local_type ss name m) (λ t. with_local_of at name t x.value) (with_other at ss name m x.value)
-
-  abbrev pub without_statements : Place → Walk
-  without_statements at = record { trees = []; after = at }
+      or_else (local_type ss text m) (λ t. with_local_of at text t x.value) (with_other at ss text m x.value)
 
   abbrev pub with_stop : Place → Option (List ℕ × Site) → List Statement
   with_stop at None = []

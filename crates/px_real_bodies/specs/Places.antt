@@ -35,10 +35,13 @@ outside_of_it at = record at { scopes = left at.scopes }
 
 -- one more local
 abbrev pub with_one_local : Environment → List ℕ → ProfileType → Place → Place
-with_one_local env name t at =
-    record { scopes = with_local name at.next t at.scopes; locals = at.locals ++ value_type env t ∷ []; next = at.next + 1 }
+with_one_local env text t at =
+    record { scopes = with_local text at.next t at.scopes; locals = at.locals ++ value_type env t ∷ []; next = at.next + 1 }
 
 -- statements, and the place behind them
 pub record Walk : Type 0 where
   pub trees : List Statement
   pub after : Place
+
+abbrev pub without_statements : Place → Walk
+without_statements at = record { trees = []; after = at }

@@ -10,10 +10,10 @@ use Rattle.px_real_values.specs.Operands.{stop}
 use Rattle.px_real_values.specs.Values.{is_zero}
 use Rattle.px_real_scopes.specs.Scopes.{Scopes}
 use Rattle.px_real_effects.specs.Effects.{performed, returned, argument_of}
-use Rattle.px_real_bodies.specs.Places.{Function, Place, within, outside_of_it, Walk}
+use Rattle.px_real_bodies.specs.Places.{Function, Place, within, outside_of_it, Walk, without_statements}
 use Rattle.px_real_bodies.specs.Phrases.{expression_in, declaration_in, first_place, no_place}
 use Rattle.px_real_bodies.specs.Values.{env, unread_at, parts_of, decided, decided_if}
-use Rattle.px_real_bodies.specs.Declarations.{without_statements, declared}
+use Rattle.px_real_bodies.specs.Declarations.{declared}
 
 -- ---- whether a statement leaves the loop that it stands in
 

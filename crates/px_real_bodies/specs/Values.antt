@@ -81,13 +81,13 @@ module _ (f : Function) (st : Scopes) where
   decided_if site [] = None
   decided_if site (t ∷ ts) = Some (decided site (t ∷ ts))
 
-  -- the parts of an initialiser, and of those of a list in order; lists stand within one another
-  abbrev mutual
-    pub initialiser_parts : ℕ → Site → List Lexeme → List Expression
-    initialiser_parts zero site ts = parts_of site ts
-    initialiser_parts (suc n) site ts = or_else (listed ts) (λ inner. item_parts n site (separated 0 inner)) (parts_of site ts)
+  -- the parts of the items of a list, in order
+  abbrev pub item_parts : (List Lexeme → List Expression) → List (List Lexeme) → List Expression
+  item_parts parts_in [] = []
+  item_parts parts_in ([] ∷ xs) = item_parts parts_in xs
+  item_parts parts_in ((t ∷ ts) ∷ xs) = parts_in (without_designators (t ∷ ts)) ++ item_parts parts_in xs
 
-    pub item_parts : ℕ → Site → List (List Lexeme) → List Expression
-    item_parts n site [] = []
-    item_parts n site ([] ∷ xs) = item_parts n site xs
-    item_parts n site ((t ∷ ts) ∷ xs) = initialiser_parts n site (without_designators (t ∷ ts)) ++ item_parts n site xs
+  -- the parts of an initialiser; lists stand within one another so deep
+  abbrev pub initialiser_parts : ℕ → Site → List Lexeme → List Expression
+  initialiser_parts zero site ts = parts_of site ts
+  initialiser_parts (suc n) site ts = or_else (listed ts) (λ between. item_parts (initialiser_parts n site) (separated 0 between)) (parts_of site ts)

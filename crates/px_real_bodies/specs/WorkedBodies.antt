@@ -15,6 +15,7 @@ use Rattle.px_real_statements.specs.StatementTree.{named, case, StatementTree, s
 use Rattle.px_real_declarations.specs.WorkedDeclarations.{column, sign}
 use Rattle.px_real_types.specs.declared.shape.Base.{Base}
 use Rattle.px_real_types.specs.declared.shape.Base.TheVariants as B
+use Rattle.px_real_types.specs.declared.shape.ProfileType.{ProfileType}
 use Rattle.px_real_values.specs.declared.known.Member.TheVariants as N
 use Rattle.px_real_values.specs.Types.{int, struct, pointer_to, unknown, known}
 use Rattle.px_real_values.specs.Operands.{stop}
@@ -41,7 +42,7 @@ run = record { definition = λ name. None; proc_number = λ name. record { 0 = w
 abbrev pub f : Function
 f = record { run = run; is_addressed = λ name. bytes_eq name (codes "z"); returns = None }
 
-abbrev pub pointed : _
+abbrev pub pointed : ProfileType
 pointed = pointer_to (struct 0)
 
 abbrev pub known_scopes : Scopes
