@@ -2,6 +2,8 @@
 use Rattle.std.specs.Prelude.{ℕ, List, [], ◌∷◌, Bool, true, false, ◌||◌, Option, Some, None, is_some, codes, if◌then◌else◌}
 use Rattle.px_expressions.specs.Reading.{or_else}
 use Rattle.px_real_declarations.specs.DeclarationTree.{SpecifierTree, keyword, type_name, group, tagged, says_type, DeclaratorTree, no_name, a_name, inner, pointer, array, function, DeclaredTree}
+use Rattle.px_real_declaring.specs.declared.tree.Suffix.{Suffix}
+use Rattle.px_real_declaring.specs.declared.tree.Suffix.TheVariants as X
 use Rattle.px_real_types.specs.declared.shape.Shape.{Shape}
 use Rattle.px_real_types.specs.declared.shape.Shape.TheVariants as S
 use Rattle.px_real_types.specs.Shapes.{as_parameter}
@@ -63,6 +65,11 @@ is_array_of (inner site gs d) = is_array_of d
 is_array_of (pointer site ss d) = is_array_of d
 is_array_of (array site d held) = is_some (bare_name d) || is_array_of d
 is_array_of (function site d held) = is_array_of d
+
+-- whether brackets are the first that stands behind a declarator
+abbrev pub begins_array : List Suffix → Bool
+begins_array (X.Array site held ∷ ss) = true
+begins_array _ = false
 
 -- what is known beyond the shape: of a name alone what its specifiers say
 abbrev pub beyond_declarator : DeclaratorTree → Known → Known
