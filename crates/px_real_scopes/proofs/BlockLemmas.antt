@@ -73,7 +73,7 @@ module _ (xs : List Binding) (e : ℕ) (is_end : IsEndOfKey (keys_of xs) block_k
   behind_more (suc k) l =
       let n : e + suc k ≡ e + k + 1 = omega arith in
       let lt : e + k < length xs = omega arith in
-      ap (λ m. behind_block (bindings_view (take m xs))) n ∙ ap behind_block (last_first binding_view xs (e + k) V.Block lt)
+      ap behind_block (last_first binding_view xs (e + suc k) (e + k) V.Block n lt)
       ∙ behind_other (binding_view (get_or xs (e + k) V.Block)) (bindings_view (take (e + k) xs)) (not_block (e + k) (omega arith) lt) ∙ behind_more k (omega arith)
 
   all_of_it : bindings_view (take (e + (length xs - e)) xs) ≡ bindings_view xs
@@ -82,7 +82,7 @@ module _ (xs : List Binding) (e : ℕ) (is_end : IsEndOfKey (keys_of xs) block_k
   at_it : behind_block (bindings_view (take e xs)) ≡ bindings_view (take (e - 1) xs)
   at_it = elim (cases_lt 0 e) [
     | inl p ↦ (let w = within in let n : e ≡ e - 1 + 1 = omega arith in let lt : e - 1 < length xs = omega arith in
-      ap (λ m. behind_block (bindings_view (take m xs))) n ∙ ap behind_block (last_first binding_view xs (e - 1) V.Block lt)
+      ap behind_block (last_first binding_view xs e (e - 1) V.Block n lt)
       ∙ ap (λ z. behind_block (z ∷ bindings_view (take (e - 1) xs))) (block_here p))
     | inr z ↦ (let n : e ≡ 0 = omega arith in let m : 0 ≡ e - 1 = omega arith in ap (λ k. behind_block (bindings_view (take k xs))) n ∙ ap (λ k. bindings_view (take k xs)) m)
   ]
@@ -102,7 +102,7 @@ module _ (xs : List Binding) (e : ℕ) (is_end : IsEndOfKey (keys_of xs) block_k
         let m : b + suc k ≡ b + k + 1 = omega arith in
         let lt : b + k < length xs = omega arith in
         let x = binding_view (get_or xs (b + k) V.Block) in
-        ap Own m ∙ ap (λ z. first_said says (own_block z)) (last_first binding_view xs (b + k) V.Block lt)
+        ap (λ z. first_said says (own_block z)) (last_first binding_view xs (b + suc k) (b + k) V.Block m lt)
         ∙ ap (first_said says) (own_other x (bindings_view (take (b + k) xs)) (not_block (b + k) (omega arith) lt))
         ∙ ap (λ z. or_else z (λ c. Some c) (Own (b + k))) (s.not_here x (last.none_behind V.Block (b + k) (omega arith) lt)) ∙ own_more b h g k (omega arith)
 
@@ -115,7 +115,7 @@ module _ (xs : List Binding) (e : ℕ) (is_end : IsEndOfKey (keys_of xs) block_k
     pub not_own : n ≤ e → first_said says (own_block (bindings_view xs)) ≡ None
     not_own g = own_from e (omega arith) g within ∙ elim (cases_lt 0 e) [
       | inl p ↦ (let w = within in let m : e ≡ e - 1 + 1 = omega arith in let lt : e - 1 < length xs = omega arith in
-        ap Own m ∙ ap (λ z. first_said says (own_block z)) (last_first binding_view xs (e - 1) V.Block lt) ∙ ap (λ z. first_said says (own_block (z ∷ bindings_view (take (e - 1) xs)))) (block_here p))
+        ap (λ z. first_said says (own_block z)) (last_first binding_view xs e (e - 1) V.Block m lt) ∙ ap (λ z. first_said says (own_block (z ∷ bindings_view (take (e - 1) xs)))) (block_here p))
       | inr z ↦ (let m : e ≡ 0 = omega arith in ap Own m)
     ]
 
@@ -125,6 +125,6 @@ module _ (xs : List Binding) (e : ℕ) (is_end : IsEndOfKey (keys_of xs) block_k
         let m : n ≡ n - 1 + 1 = omega arith in
         let lt : n - 1 < length xs = omega arith in
         let x = binding_view (get_or xs (n - 1) V.Block) in
-        own_from n (omega arith) (omega arith) w ∙ ap Own m ∙ ap (λ z. first_said says (own_block z)) (last_first binding_view xs (n - 1) V.Block lt)
+        own_from n (omega arith) (omega arith) w ∙ ap (λ z. first_said says (own_block z)) (last_first binding_view xs n (n - 1) V.Block m lt)
         ∙ ap (first_said says) (own_other x (bindings_view (take (n - 1) xs)) (not_block (n - 1) (omega arith) lt))
         ∙ s.here x (own_block (bindings_view (take (n - 1) xs))) (last.here V.Block (omega arith)) ∙ ap (λ z. bound (binding_view z)) (get_or_default xs (n - 1) V.Block d lt)

@@ -6,3 +6,8 @@ pub mod CutLemmas
 pub mod DefinitionLemmas
 pub mod TurnLemmas
 pub mod DeclaratorLemmas
+pub mod ReadLemmas
+pub mod GrowLemmas
+pub mod ComeLemmas
+pub mod EnumeratorLemmas
+pub mod FunctionLemmas

@@ -18,8 +18,9 @@ pub record Says {B C : Type 0} (binds : B → Bool) (says bound : B → Option C
 
 module _ {A B : Type 0} (view : A → B) where
   -- the last is the nearest
-  pub last_first : (xs : List A) (i : ℕ) (d : A) → i < length xs → reverse (map view (take (i + 1) xs)) ≡ view (get_or xs i d) ∷ reverse (map view (take i xs))
-  last_first xs i d lt = ap (λ z. reverse (map view z)) (take_more xs i d lt) ∙ ap reverse (map_push view (take i xs) (get_or xs i d)) ∙ reverse-append (map view (take i xs)) (view (get_or xs i d) ∷ [])
+  pub last_first : (xs : List A) (n i : ℕ) (d : A) → n ≡ i + 1 → i < length xs → reverse (map view (take n xs)) ≡ view (get_or xs i d) ∷ reverse (map view (take i xs))
+  last_first xs n i d e lt =
+      ap (λ m. reverse (map view (take m xs))) e ∙ ap (λ z. reverse (map view z)) (take_more xs i d lt) ∙ ap reverse (map_push view (take i xs) (get_or xs i d)) ∙ reverse-append (map view (take i xs)) (view (get_or xs i d) ∷ [])
 
   module _ {C : Type 0} (says : B → Option C) (xs : List A) (d : A) (n : ℕ) (none : (i : ℕ) → n ≤ i → i < length xs → says (view (get_or xs i d)) ≡ None) where
     abbrev Said : ℕ → Option C
@@ -33,7 +34,7 @@ module _ {A B : Type 0} (view : A → B) where
     skips (suc k) l =
         let e : n + suc k ≡ n + k + 1 = omega arith in
         let lt : n + k < length xs = omega arith in
-        ap Said e ∙ ap (first_said says) (last_first xs (n + k) d lt)
+        ap (first_said says) (last_first xs (n + suc k) (n + k) d e lt)
         ∙ skip_one (view (get_or xs (n + k) d)) (reverse (map view (take (n + k) xs))) (none (n + k) (omega arith) lt) ∙ skips k (omega arith)
 
     pub all_skipped : n ≤ length xs → first_said says (reverse (map view xs)) ≡ Said n
@@ -53,7 +54,7 @@ module _ {A B : Type 0} (view : A → B) where
         let w = l.within in
         let e : n ≡ n - 1 + 1 = omega arith in
         let lt : n - 1 < length xs = omega arith in
-        all_skipped says xs d n none_from w ∙ ap (λ m. first_said says (reverse (map view (take m xs)))) e ∙ ap (first_said says) (last_first xs (n - 1) d lt)
+        all_skipped says xs d n none_from w ∙ ap (first_said says) (last_first xs n (n - 1) d e lt)
         ∙ s.here (view (get_or xs (n - 1) d)) (reverse (map view (take (n - 1) xs))) (l.here d p)
 
 pub says_names : (word : List ℕ) → Says (binds_name word) (says_name word) meaning_bound

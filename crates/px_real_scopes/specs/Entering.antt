@@ -69,11 +69,14 @@ if_open st o = or_else o (λ n. if is_defined st n then None else Some n) None
 
 -- what stands between braces defines the one of the innermost block, if that is declared and isn't defined yet; and a declaration of nothing but
 -- the tag means the one of the innermost block
+abbrev pub tagged_number : Scopes → Bool → Bool → List ℕ → Option ℕ
+tagged_number st alone true tag = if_open st (number_in (tag_of (own_block st.bindings) tag))
+tagged_number st true false tag = number_in (tag_of (own_block st.bindings) tag)
+tagged_number st false false tag = number_in (tag_of st.bindings tag)
+
 abbrev pub declared_number : Scopes → Bool → Bool → Option (List ℕ) → Option ℕ
+declared_number st alone defines (Some tag) = tagged_number st alone defines tag
 declared_number st alone defines None = None
-declared_number st alone true (Some tag) = if_open st (number_in (tag_of (own_block st.bindings) tag))
-declared_number st true false (Some tag) = number_in (tag_of (own_block st.bindings) tag)
-declared_number st false false (Some tag) = number_in (tag_of st.bindings tag)
 
 abbrev pub record_binding : Option (List ℕ) → Site → ℕ → BindingTree
 record_binding (Some tag) site n = of_tag tag (a_record n)
@@ -118,13 +121,16 @@ abbrev pub inherited : NamedTree → NamedTree
 inherited m = record { name = m.name; member = no_cell m.member }
 
 -- the number of a struct or union without a tag
-abbrev pub nameless_number : List BindingTree → Option SpecifierTree → Option ℕ
-nameless_number bs (Some (tagged word site gs None held)) = placed bs site
+abbrev pub nameless_number : List BindingTree → SpecifierTree → Option ℕ
+nameless_number bs (tagged word site gs None held) = placed bs site
 nameless_number bs _ = None
+
+abbrev pub members_without_a_name : Scopes → List SpecifierTree → Option (List NamedTree)
+members_without_a_name st ss = or_else (type_specifier ss) (λ s. or_else (nameless_number st.bindings s) (members_of st) None) None
 
 -- of a member without a name that is one, its members are members, and no cells (6.7.2.1, 13)
 abbrev pub nameless_members : Scopes → List SpecifierTree → List NamedTree
-nameless_members st ss = or_else (nameless_number st.bindings (type_specifier ss)) (λ n. or_else (members_of st n) (λ ms. map inherited ms) []) []
+nameless_members st ss = or_else (members_without_a_name st ss) (λ ms. map inherited ms) []
 
 abbrev pub with_members : Bool → Scopes → List SpecifierTree → List NamedTree → List DeclaredTree → List NamedTree
 with_members cells st ss ms [] = ms ++ nameless_members st ss

@@ -72,8 +72,11 @@ begins_array (X.Array site held ∷ ss) = true
 begins_array _ = false
 
 -- what is known beyond the shape: of a name alone what its specifiers say
+abbrev pub beyond_by : Bool → Bool → Known → Known
+beyond_by bare array k = if bare then k else (if array then K.Array else unknown)
+
 abbrev pub beyond_declarator : DeclaratorTree → Known → Known
-beyond_declarator d k = if is_some (bare_name d) then k else (if is_array_of d then K.Array else unknown)
+beyond_declarator d k = beyond_by (is_some (bare_name d)) (is_array_of d) k
 
 -- the type of what is declared, where its specifiers say this one
 abbrev pub declared_known : DeclaredTree → Known → Known

@@ -6,7 +6,7 @@ ghost use Rattle.px_real_types.specs.Scopes.{texts};
 ghost use Rattle.px_real_values.specs.Types.{unknown};
 ghost use Rattle.px_real_values.specs.Spelled.{is_nothing};
 ghost use Rattle.px_real_scopes.specs.Lookups.{seen};
-ghost use Rattle.px_real_scopes.specs.Knowing.{beyond, begins_array, with_shape, is_array_of, beyond_declarator, declared_known, parameter_known};
+ghost use Rattle.px_real_scopes.specs.Knowing.{beyond, begins_array, beyond_by, with_shape, is_array_of, beyond_declarator, declared_known, parameter_known};
 
 use px_real_declaring::{Declarator, Declared, Suffix};
 use px_real_types::{Base, Shape, Texts, declared_shape};
@@ -114,17 +114,24 @@ fn is_array_of(declarator: &Declarator) -> bool
     }
 }
 
-// What is known beyond the shape of what a declarator declares.
-fn beyond_declarator(declarator: &Declarator, known: Known) -> Known
-    ensures { (all : List Lexeme) → result ≡ beyond_declarator (declarator_tree all declarator.now) known }
+// What is known beyond the shape of a name alone, of an array or of something else.
+fn beyond_by(bare: bool, array: bool, known: Known) -> Known
+    ensures { result ≡ beyond_by bare array known }
 {
-    if is_bare(declarator) {
+    if bare {
         known
-    } else if is_array_of(declarator) {
+    } else if array {
         Known::Array
     } else {
         unknown()
     }
+}
+
+// What is known beyond the shape of what a declarator declares.
+fn beyond_declarator(declarator: &Declarator, known: Known) -> Known
+    ensures { (all : List Lexeme) → result ≡ beyond_declarator (declarator_tree all declarator.now) known }
+{
+    beyond_by(is_bare(declarator), is_array_of(declarator), known)
 }
 
 /// What is known of the type of what is declared, where its specifiers say this.
