@@ -11,3 +11,4 @@ pub mod GrowLemmas
 pub mod ComeLemmas
 pub mod EnumeratorLemmas
 pub mod FunctionLemmas
+pub mod MemberLemmas

@@ -19,3 +19,19 @@ module _ {A B C : Type 0} (says : B → Option C) (view : A → B) (xs : List A)
   -- none is left
   pub none_said : {o : Option C} → length xs ≤ i → first_said says (map view (drop i xs)) ≡ o → None ≡ o
   none_said le so_far = sym (ap (λ z. first_said says (map view z)) (drop_all i xs le)) ∙ so_far
+
+-- ---- what is done with each
+
+module _ {A B S : Type 0} (all : S → List B → S) (one : S → B → S) (law : (st : S) (x : B) (xs : List B) → all st (x ∷ xs) ≡ all (one st x) xs) (view : A → B) (xs : List A) (i : ℕ) where
+  pub one_done : (x : A) (st st1 : S) {o : S} → i < length xs → x ≡ get_or xs i x → all st (map view (drop i xs)) ≡ o → st1 ≡ one st (view x) → all st1 (map view (drop (i + 1) xs)) ≡ o
+  one_done x st st1 lt is so_far h =
+      ap (λ z. all z (map view (drop (i + 1) xs))) h ∙ sym (law st (view x) (map view (drop (i + 1) xs)))
+      ∙ sym (ap (λ z. all st (map view z)) (drop_more xs i x lt ∙ ap (λ z. z ∷ drop (i + 1) xs) (sym is))) ∙ so_far
+
+-- ---- one or another
+
+pub or_some : {A B : Type 0} (o : Option A) (a : A) (f : A → B) (d : B) → Some a ≡ o → f a ≡ or_else o f d
+or_some o a f d h = ap (λ z. or_else z f d) h
+
+pub or_none : {A B : Type 0} (o : Option A) (f : A → B) (d : B) → None ≡ o → d ≡ or_else o f d
+or_none o f d h = ap (λ z. or_else z f d) h

@@ -55,11 +55,13 @@ abbrev pub with_tag : Option (List ℕ) → TagTree → List BindingTree → Lis
 with_tag (Some tag) t bs = of_tag tag t ∷ bs
 with_tag None t bs = bs
 
+abbrev pub with_enumerated : Option (List ℕ) → List EnumeratorTree → Scopes → Scopes
+with_enumerated tag es st = record st { bindings = with_enumerators (Some 0) es (with_tag tag an_enumeration st.bindings) }
+
 -- an enumeration is declared where its enumerators stand; the first counts as 0
 abbrev pub with_enumeration : Option (List ℕ) → Option (List Lexeme) → Scopes → Option Scopes
 with_enumeration tag None st = Some st
-with_enumeration tag (Some held) st =
-    or_else (as_whole (enumerators_at held)) (λ es. Some (record st { bindings = with_enumerators (Some 0) es (with_tag tag an_enumeration st.bindings) })) None
+with_enumeration tag (Some held) st = or_else (as_whole (enumerators_at held)) (λ es. Some (with_enumerated tag es st)) None
 
 -- ---- which struct or union is meant (6.7.2.3)
 
@@ -92,13 +94,14 @@ meant_record is_struct alone defines tag site st = or_else (declared_number st a
 
 -- ---- members
 
-abbrev pub is_cell : Member → Bool
-is_cell (N.Cell number kind) = true
-is_cell (N.Other k) = false
+-- how many cells there are with this member
+abbrev pub counted : ℕ → Member → ℕ
+counted n (N.Cell number kind) = n + 1
+counted n (N.Other k) = n
 
 abbrev pub cells_among : List NamedTree → ℕ
 cells_among [] = 0
-cells_among (m ∷ ms) = if is_cell m.member then cells_among ms + 1 else cells_among ms
+cells_among (m ∷ ms) = counted (cells_among ms) m.member
 
 -- the cell with this number, where it may be one and has a type of the profile
 abbrev pub member_made : Bool → ℕ → Known → Member
@@ -150,11 +153,13 @@ with_line deeper cells x (assertion g) = Some x
 abbrev pub with_definition : ℕ → Scopes × List NamedTree → Scopes
 with_definition n x = record x.0 { definitions = record { number = n; members = x.1 } ∷ x.0.definitions }
 
--- what stands between the braces of the one with this number, which may hold others by `deeper`
+-- the one with this number with these members, which may hold others by `deeper`
+abbrev pub defined_by : Entering → ℕ → Scopes → List DeclarationTree → Option Scopes
+defined_by deeper n st ds = or_else (in_turn (with_line deeper (is_seen st n)) (st, []) ds) (λ x. Some (with_definition n x)) None
+
+-- with what stands between its braces
 abbrev pub defined_as : Option Entering → List Lexeme → ℕ × Scopes → Option Scopes
-defined_as (Some deeper) held (n, st) =
-    or_else (as_whole (members_at (are_types st.bindings) nesting_limit held))
-    (λ ds. or_else (in_turn (with_line deeper (is_seen st n)) (st, []) ds) (λ x. Some (with_definition n x)) None) None
+defined_as (Some deeper) held (n, st) = or_else (as_whole (members_at (are_types st.bindings) nesting_limit held)) (defined_by deeper n st) None
 defined_as None held (n, st) = None
 
 abbrev pub defined_if : Option Entering → Option (List Lexeme) → ℕ × Scopes → Option Scopes

@@ -58,8 +58,11 @@ declared_function st f = declared_by st (in_profile f.gives) (parameters_in st f
 -- ---- a definition
 
 -- in an old-style definition: the type of the parameter with this name, where it is declared
+abbrev pub says_named : List ℕ → Shape → DeclaredTree → List ℕ → Option (Option ProfileType)
+says_named word s x name = if bytes_eq word name then Some (in_profile (as_parameter (declared_shape x s))) else None
+
 abbrev pub says_parameter : List ℕ → Shape → DeclaredTree → Option (Option ProfileType)
-says_parameter word s x = or_else (declared_name x.declarator) (λ name. if bytes_eq word name then Some (in_profile (as_parameter (declared_shape x s))) else None) None
+says_parameter word s x = or_else (declared_name x.declarator) (says_named word s x) None
 
 abbrev pub says_among : List ℕ → Shape → List DeclaredTree → Option (Option ProfileType)
 says_among word s xs = first_said (says_parameter word s) xs

@@ -73,7 +73,7 @@ begins_array _ = false
 
 -- what is known beyond the shape: of a name alone what its specifiers say
 abbrev pub beyond_by : Bool → Bool → Known → Known
-beyond_by bare array k = if bare then k else (if array then K.Array else unknown)
+beyond_by bare brackets k = if bare then k else (if brackets then K.Array else unknown)
 
 abbrev pub beyond_declarator : DeclaratorTree → Known → Known
 beyond_declarator d k = beyond_by (is_some (bare_name d)) (is_array_of d) k

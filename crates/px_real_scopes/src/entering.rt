@@ -126,7 +126,26 @@ fn add_definition(
     })
 }
 
-// What stands between the braces of the struct or union with this number, where others may stand within it so deep.
+// The struct or union with this number with these members, where others may stand within it so deep.
+#[cycle(enter_specifier)]
+fn define_by(
+    alloc: Global,
+    scopes: &mut Scopes,
+    on: Texts,
+    depth: u32,
+    number: u32,
+    lines: &[Declaration],
+) -> Result<(), DeclarationFault>
+    ensures comes { Comes (Rules.defined_by (Rules.with_specifier (Rules.deeper_by depth) false) number scopes.old (map (declaration_tree (texts on.entry)) lines.now)) scopes.new result }
+    ensures grows { Grows scopes.old scopes.new }
+{
+    let mut members = MemberList::new(alloc, scopes.is_seen(number));
+    enter_lines(alloc, scopes, on, depth, &mut members, lines)?;
+    add_definition(scopes, number, members)?;
+    Ok(())
+}
+
+// With what stands between its braces.
 #[cycle(enter_specifier)]
 fn define(
     alloc: Global,
@@ -141,11 +160,10 @@ fn define(
     if depth == 0 {
         return Err(DeclarationFault::Deep(0));
     }
-    let lines = members_of(alloc, on.source, on.tokens, &scopes.bindings)?;
-    let mut members = MemberList::new(alloc, scopes.is_seen(number));
-    enter_lines(alloc, scopes, on, depth - 1, &mut members, &lines)?;
-    add_definition(scopes, number, members)?;
-    Ok(())
+    match members_of(alloc, on.source, on.tokens, &scopes.bindings) {
+        Ok(lines) => define_by(alloc, scopes, on, depth - 1, number, &lines),
+        Err(fault) => Err(fault),
+    }
 }
 
 // The struct or union that is named so, and what it holds, if that follows.

@@ -112,6 +112,21 @@ fn add_tag(alloc: Global, scopes: &mut Scopes, tag: &Option<Name>) -> Result<(),
     }
 }
 
+// An enumeration with these enumerators.
+fn add_enumeration(
+    alloc: Global,
+    scopes: &mut Scopes,
+    on: Texts,
+    tag: &Option<Name>,
+    enumerators: &[Enumerator],
+) -> Result<(), NoMemory>
+    ensures added { OnOk result (scopes.new ≡ Rules.with_enumerated tag.now (map (enumerator_tree (texts on.entry)) enumerators.now) scopes.old) }
+    ensures grows { Grows scopes.old scopes.new }
+{
+    add_tag(alloc, scopes, tag)?;
+    add_enumerators(alloc, scopes, on, enumerators)
+}
+
 // An enumeration with these tokens between its braces.
 fn define_enumeration(
     alloc: Global,
@@ -122,10 +137,13 @@ fn define_enumeration(
     ensures comes { Comes (Rules.with_enumeration tag.now (Some (texts on.entry)) scopes.old) scopes.new result }
     ensures grows { Grows scopes.old scopes.new }
 {
-    let enumerators = enumerators_of(alloc, on.source, on.tokens)?;
-    add_tag(alloc, scopes, tag)?;
-    add_enumerators(alloc, scopes, on, &enumerators)?;
-    Ok(())
+    match enumerators_of(alloc, on.source, on.tokens) {
+        Ok(enumerators) => {
+            add_enumeration(alloc, scopes, on, tag, &enumerators)?;
+            Ok(())
+        }
+        Err(fault) => Err(fault),
+    }
 }
 
 /// An enumeration, where what it holds follows.

@@ -158,7 +158,24 @@ fn int() -> Option<ProfileType>
     })
 }
 
-// The type of this parameter of an old-style definition, if it is the one that is declared here.
+// The type of this parameter of an old-style definition, if the one with this name is it.
+fn says_named(
+    on: Texts,
+    word: &[u8],
+    name: &[u8],
+    shape: Shape,
+    declared: &Declared,
+) -> Option<Option<ProfileType>>
+    ensures { result ≡ Rules.says_named word.now shape (declared_tree (texts on.entry) declared.now) name.now }
+{
+    if word == name {
+        Some(declared_shape(declared, on, shape).as_parameter().in_profile())
+    } else {
+        None
+    }
+}
+
+// The same by what is declared here.
 fn says_parameter(
     on: Texts,
     word: &[u8],
@@ -167,11 +184,10 @@ fn says_parameter(
 ) -> Option<Option<ProfileType>>
     ensures { result ≡ Rules.says_parameter word.now shape (declared_tree (texts on.entry) declared.now) }
 {
-    let name = declared_name(&declared.declarator)?;
-    if word != name.as_slice() {
-        return None;
+    match declared_name(&declared.declarator) {
+        Some(name) => says_named(on, word, name.as_slice(), shape, declared),
+        None => None,
     }
-    Some(declared_shape(declared, on, shape).as_parameter().in_profile())
 }
 
 // The same among all that a declaration declares.
@@ -184,9 +200,8 @@ fn says_among(
     ensures { result ≡ Rules.says_among word.now shape (map (declared_tree (texts on.entry)) declared.now) }
 {
     for each in declared {
-        let said = says_parameter(on, word, shape, each);
-        if said.is_some() {
-            return said;
+        if let Some(said) = says_parameter(on, word, shape, each) {
+            return Some(said);
         }
     }
     None

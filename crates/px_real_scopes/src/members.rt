@@ -1,4 +1,4 @@
-ghost use Rattle.std.specs.Prelude.{◌≡◌, ◌∷◌, ◌++◌, [], map, not, ◌&&◌, option_map, List, OnOk};
+ghost use Rattle.std.specs.Prelude.{◌≡◌, ◌∷◌, ◌++◌, [], map, not, ◌&&◌, option_map, List, OnOk, IfOk};
 ghost use Rattle.px_real_expressions.specs.Lexemes.{Lexeme};
 ghost use Rattle.px_real_declaring.specs.Trees.{specifier_tree, declared_tree};
 ghost use Rattle.px_real_types.specs.Scopes.{texts};
@@ -40,13 +40,13 @@ impl Model for MemberList {
     ghost invariant = { λ m. m.next ≡ cells_among (map member_view m.items.items) };
 }
 
-// Whether it is a cell.
-fn is_cell(member: Member) -> bool
-    ensures { result ≡ Rules.is_cell member }
+// How many cells there are with this member.
+fn counted(cells: u32, member: Member) -> Result<u32, NoMemory>
+    ensures { IfOk result (λ n. n ≡ Rules.counted cells member) }
 {
     match member {
-        Member::Cell { .. } => true,
-        Member::Other(_) => false,
+        Member::Cell { .. } => cells.checked_add(1).ok_or(NoMemory),
+        Member::Other(_) => Ok(cells),
     }
 }
 
@@ -117,11 +117,7 @@ impl MemberList {
     fn push(&mut self, alloc: Global, name: &[u8], member: Member) -> Result<(), NoMemory>
         ensures { OnOk result (self.new ≡ record self.old { members = self.old.members ++ record { name = name.now; member = member } ∷ [] }) }
     {
-        let next = if is_cell(member) {
-            self.next.checked_add(1).ok_or(NoMemory)?
-        } else {
-            self.next
-        };
+        let next = counted(self.next, member)?;
         let name = Name::from_slice(alloc, name)?;
         self.items.push(NamedMember { name, member })?;
         self.next = next;
