@@ -2,8 +2,9 @@
 use Rattle.std.proofs.Common.{◌≡◌, ◌&&◌, Bool, true, false, List, [], ◌∷◌, length, get_or, map, Option, Some, None, if◌then◌else◌, refl, ap, ap₂, sym, ◌∙◌, arith}
 use Rattle.std.specs.Str.{bytes_eq}
 use Rattle.px_expressions.specs.Reading.{or_else}
-use Rattle.px_real_declarations.specs.DeclarationTree.{SpecifierTree, DeclaredTree, declaration}
+use Rattle.px_real_declarations.specs.DeclarationTree.{SpecifierTree, says_type, DeclaredTree, declaration}
 use Rattle.px_real_values.specs.Spelled.{is_nothing}
+use Rattle.px_real_scopes.specs.Knowing.{if_type}
 use Rattle.px_real_scopes.specs.Functions.{is_void_word, is_void}
 
 -- one specifier and one declarator
@@ -14,3 +15,11 @@ void_is f g (y ∷ z ∷ ss) xs s x a b hs hx = absurd (omega (arith, a))
 void_is f g (y ∷ []) [] s x a b hs hx = absurd cc
 void_is f g (y ∷ []) (z ∷ w ∷ xs) s x a b hs hx = absurd (omega (arith, b))
 void_is f g (y ∷ []) (z ∷ []) s x a b hs hx = ap₂ (λ u v. is_void_word (f u) && is_nothing (g v).declarator) (sym hs) (sym hx)
+
+-- ---- specifiers that say a type
+
+pub if_yes : (s : SpecifierTree) → says_type s ≡ true → if_type s ≡ Some s
+if_yes s h = ap (λ b. if b then Some s else None) h
+
+pub if_no : (s : SpecifierTree) → says_type s ≡ false → if_type s ≡ None
+if_no s h = ap (λ b. if b then Some s else None) h

@@ -12,3 +12,4 @@ pub mod ComeLemmas
 pub mod EnumeratorLemmas
 pub mod FunctionLemmas
 pub mod MemberLemmas
+pub mod EnteringLemmas

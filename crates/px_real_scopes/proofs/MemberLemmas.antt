@@ -1,12 +1,15 @@
 -- Members, one after the other.
-use Rattle.std.proofs.Common.{◌≡◌, ℕ, ◌+◌, List, [], ◌∷◌, ◌++◌, map, Option, Some, None, refl, ap, sym, ◌∙◌, append_assoc}
+use Rattle.std.proofs.Common.{◌≡◌, ℕ, ◌+◌, List, [], ◌∷◌, ◌++◌, map, Bool, ◌&&◌, not, Option, Some, None, is_some, option_map, Result, Ok, Err, OnOk, refl, ap, ap₂, ◌∙◌}
+use Rattle.px_expressions.specs.Reading.{or_else}
+use Rattle.px_real_declarations.specs.Names.{declared_name}
 use Rattle.px_real_declarations.specs.DeclarationTree.{DeclaredTree}
 use Rattle.px_real_values.specs.declared.known.Known.{Known}
 use Rattle.px_real_values.specs.declared.known.Member.{Member}
 use Rattle.px_real_values.specs.declared.known.Member.TheVariants as N
 use Rattle.px_real_scopes.specs.Scopes.{NamedTree}
 use Rattle.px_real_scopes.specs.Steps.{MembersTree}
-use Rattle.px_real_scopes.specs.Entering.{counted, cells_among, with_member, with_each, inherited}
+use Rattle.px_real_scopes.specs.Entering.{counted, cells_among, member_made, with_member, with_each, inherited}
+use Rattle.px_real_scopes.specs.Knowing.{declared_known}
 
 abbrev pub WithOne : Known → MembersTree → DeclaredTree → MembersTree
 WithOne k ms x = record ms { members = with_member ms.cells k ms.members x }
@@ -27,3 +30,23 @@ cells_pushed (x ∷ ms) m = ap (λ z. counted z x.member) (cells_pushed ms m) �
     by (N.Cell i t) (N.Other k) = refl
     by (N.Other k) (N.Cell j u) = refl
     by (N.Other k) (N.Other l) = refl
+
+pub on_ok : {E P Q : Type 0} (r : Result Unit E) → (P → Q) → OnOk r P → OnOk r Q
+on_ok (Ok u) f h = f h
+on_ok (Err e) f h = h
+
+pub some_mapped : {A B : Type 0} (f : A → B) (o : Option A) → is_some o ≡ is_some (option_map f o)
+some_mapped f (Some a) = refl
+some_mapped f None = refl
+
+module _ (cells : Bool) (k : Known) (ms : List NamedTree) (x : DeclaredTree) where
+  abbrev Named : List ℕ → List NamedTree
+  Named name = ms ++ record { name = name; member = member_made (cells && not (is_some x.value)) (cells_among ms) (declared_known x k) } ∷ []
+
+  pub member_is : (name given : List ℕ) (m : Member) (field : Bool) (known : Known) → Some name ≡ declared_name x.declarator → given ≡ name → field ≡ is_some x.value → known ≡ declared_known x k →
+      m ≡ member_made (cells && not field) (cells_among ms) known → ms ++ record { name = given; member = m } ∷ [] ≡ with_member cells k ms x
+  member_is name given m field known h e f g is =
+      ap₂ (λ n b. ms ++ record { name = n; member = b } ∷ []) e (is ∙ ap₂ (λ z y. member_made (cells && not z) (cells_among ms) y) f g) ∙ ap (λ z. or_else z Named ms) h
+
+  pub no_member : None ≡ declared_name x.declarator → ms ≡ with_member cells k ms x
+  no_member h = ap (λ z. or_else z Named ms) h

@@ -95,7 +95,7 @@ fn parameters_in(
     match parameters_of(alloc, on.source, on.tokens, scopes) {
         Ok(parameters) => Ok(Some(parameters)),
         Err(DeclarationFault::NoMemory) => Err(NoMemory),
-        Err(_) => Ok(None),
+        Err(DeclarationFault::NotADeclaration(_)) | Err(DeclarationFault::Deep(_)) => Ok(None),
     }
 }
 
