@@ -65,4 +65,4 @@ cut_back h old new hs g = same (last_of h.bindings new.bindings) (take h.records
   where
     same : (bs : List BindingTree) (rs : List Bool) (ds : List DefinitionTree) (hidden : List Bool) → bs ≡ old.bindings → rs ≡ old.records → ds ≡ old.definitions → hidden ≡ old.hidden →
         record { bindings = bs; records = rs; definitions = ds; hidden = hidden } ≡ old
-    same bs rs ds hidden a b c d = cc
+    same bs rs ds hidden a b c d = rw (a, b, c, d) refl

@@ -1,5 +1,5 @@
 -- Members, one after the other.
-use Rattle.std.proofs.Common.{◌≡◌, ℕ, ◌+◌, List, [], ◌∷◌, ◌++◌, map, Bool, ◌&&◌, not, Option, Some, None, is_some, option_map, Result, Ok, Err, OnOk, refl, ap, ap₂, ◌∙◌}
+use Rattle.std.proofs.Common.{◌≡◌, ℕ, ◌+◌, List, [], ◌∷◌, ◌++◌, map, Bool, ◌&&◌, not, Option, Some, None, is_some, option_map, Result, Ok, Err, OnOk, IfOk, refl, ap, ap₂, ◌∙◌}
 use Rattle.px_expressions.specs.Reading.{or_else}
 use Rattle.px_real_declarations.specs.Names.{declared_name}
 use Rattle.px_real_declarations.specs.DeclarationTree.{DeclaredTree}
@@ -50,3 +50,7 @@ module _ (cells : Bool) (k : Known) (ms : List NamedTree) (x : DeclaredTree) whe
 
   pub no_member : None ≡ declared_name x.declarator → ms ≡ with_member cells k ms x
   no_member h = ap (λ z. or_else z Named ms) h
+
+pub if_ok : {A E : Type 0} {P Q : A → Type 0} (r : Result A E) → ((a : A) → P a → Q a) → IfOk r P → IfOk r Q
+if_ok (Ok a) f h = f a h
+if_ok (Err e) f h = h

@@ -1,5 +1,5 @@
 -- What is said of what is left of a list, turn by turn.
-use Rattle.std.proofs.Common.{◌≡◌, ℕ, ◌+◌, ◌<◌, ◌≤◌, List, [], ◌∷◌, length, drop, get_or, map, Option, Some, None, refl, ap, sym, ◌∙◌}
+use Rattle.std.proofs.Common.{◌≡◌, ℕ, ◌+◌, ◌<◌, ◌≤◌, List, [], ◌∷◌, ◌++◌, length, drop, get_or, map, Option, Some, None, refl, ap, sym, ◌∙◌, append_assoc}
 use Rattle.std.proofs.lemmas.List.{drop_more, drop_all}
 use Rattle.px_expressions.specs.Reading.{or_else}
 use Rattle.px_real_scopes.specs.Lookups.{first_said}
@@ -35,3 +35,11 @@ or_some o a f d h = ap (λ z. or_else z f d) h
 
 pub or_none : {A B : Type 0} (o : Option A) (f : A → B) (d : B) → None ≡ o → d ≡ or_else o f d
 or_none o f d h = ap (λ z. or_else z f d) h
+
+-- ---- what is put behind others
+
+pub put_behind : {A B : Type 0} (f : A → B) (xs : List A) (i : ℕ) (x : A) (done new : List B) (v : B) {o : List B} → i < length xs → x ≡ get_or xs i x → new ≡ done ++ v ∷ [] → v ≡ f x →
+    done ++ map f (drop i xs) ≡ o → new ++ map f (drop (i + 1) xs) ≡ o
+put_behind f xs i x done new v lt is hn hv so_far =
+    ap (λ z. z ++ map f (drop (i + 1) xs)) (hn ∙ ap (λ w. done ++ w ∷ []) hv) ∙ append_assoc done (f x ∷ []) (map f (drop (i + 1) xs))
+    ∙ sym (ap (λ z. done ++ map f z) (drop_more xs i x lt ∙ ap (λ z. z ∷ drop (i + 1) xs) (sym is))) ∙ so_far
