@@ -13,3 +13,4 @@ pub mod EnumeratorLemmas
 pub mod FunctionLemmas
 pub mod MemberLemmas
 pub mod EnteringLemmas
+pub mod BehindLemmas

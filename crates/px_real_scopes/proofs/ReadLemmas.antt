@@ -1,5 +1,5 @@
 -- What is read of held tokens is what the grammar says of them.
-use Rattle.std.proofs.Common.{◌≡◌, List, Option, Some, None, Ok, Err, refl, ap}
+use Rattle.std.proofs.Common.{◌≡◌, List, false, Option, Some, None, Ok, Err, refl, sym, ap}
 use Rattle.px_real_expressions.specs.Lexemes.{Lexeme}
 use Rattle.px_real_expressions.specs.Stops.{Read}
 use Rattle.px_real_declarations.specs.DeclarationTree.{DeclarationTree, EnumeratorTree, ParametersTree}
@@ -12,6 +12,7 @@ use Rattle.px_real_declaring.specs.declared.reading.DeclarationFault.TheVariants
 use Rattle.px_real_declaring.specs.Items.{nesting_limit}
 use Rattle.px_real_declaring.specs.Whole.{NoneIs}
 use Rattle.px_real_names.specs.Enumerated.{as_whole}
+use Rattle.px_real_scopes.specs.Steps.{is_memory}
 use Rattle.px_real_names.proofs.EnumeratedExact.{whole_of}
 
 -- what is nothing of the grammar isn't read
@@ -40,3 +41,8 @@ enumerators_are_read held es m = ap as_whole (enumerators_complete m)
 
 pub no_enumerators_are_read : (held : List Lexeme) → ((es : List EnumeratorTree) → Enumerators held es → ⊥) → as_whole (enumerators_at held) ≡ None
 no_enumerators_are_read held none = unread (enumerators_at held) (λ es e. none es (enumerators_sound held es (whole_of (enumerators_at held) es e)))
+
+pub no_parameters : (types : Types) (held : List Lexeme) (e : DeclarationFault) → NoneIs (Parameters types nesting_limit held) e → false ≡ is_memory e → None ≡ as_whole (parameters_at types nesting_limit held)
+no_parameters types held D.NoMemory h g = absurd cc
+no_parameters types held (D.NotADeclaration at) h g = sym (no_parameters_are_read types held h)
+no_parameters types held (D.Deep at) h g = sym (no_parameters_are_read types held h)

@@ -1,5 +1,5 @@
 -- What the code comes to, step by step.
-use Rattle.std.specs.Prelude.{◌≡◌, ℕ, ◌-◌, List, ◌++◌, length, take, Bool, Option, Some, None, Result, Ok, Err}
+use Rattle.std.specs.Prelude.{◌≡◌, ℕ, ◌-◌, List, ◌++◌, length, take, Bool, true, false, Option, Some, None, Result, Ok, Err}
 use Rattle.px_real_declaring.specs.declared.reading.DeclarationFault.{DeclarationFault}
 use Rattle.px_real_declaring.specs.declared.reading.DeclarationFault.TheVariants as D
 use Rattle.px_real_scopes.specs.declared.declaring.Heights.{Heights}
@@ -12,6 +12,12 @@ Comes o after (Ok u) = o ≡ Some after
 Comes o after (Err D.NoMemory) = Unit {0}
 Comes o after (Err (D.NotADeclaration at)) = o ≡ None
 Comes o after (Err (D.Deep at)) = o ≡ None
+
+-- whether memory ran out
+abbrev pub is_memory : DeclarationFault → Bool
+is_memory D.NoMemory = true
+is_memory (D.NotADeclaration at) = false
+is_memory (D.Deep at) = false
 
 -- the members of a struct or union so far, and whether they may be cells
 pub record MembersTree : Type 0 where

@@ -6,6 +6,7 @@ ghost use Rattle.px_real_members.specs.Trees.{parameters_tree, head_tree};
 ghost use Rattle.px_real_types.specs.Scopes.{texts};
 ghost use Rattle.px_real_types.specs.Declarators.{signature_tree};
 ghost use Rattle.px_real_scopes.specs.Functions as Rules;
+ghost use Rattle.px_real_scopes.specs.Steps.{is_memory};
 ghost use Rattle.px_real_scopes.specs.Views.{function_view};
 
 use crate::known::is_nothing;
@@ -84,6 +85,16 @@ fn parameter_types(
     all_types(alloc, scopes, on, parameters)
 }
 
+// Whether a fault is that memory ran out.
+fn is_memory(fault: DeclarationFault) -> bool
+    ensures { result ≡ is_memory fault }
+{
+    match fault {
+        DeclarationFault::NoMemory => true,
+        DeclarationFault::NotADeclaration(_) | DeclarationFault::Deep(_) => false,
+    }
+}
+
 // What stands between the parentheses of a function, where it is read.
 fn parameters_in(
     alloc: Global,
@@ -94,8 +105,13 @@ fn parameters_in(
 {
     match parameters_of(alloc, on.source, on.tokens, scopes) {
         Ok(parameters) => Ok(Some(parameters)),
-        Err(DeclarationFault::NoMemory) => Err(NoMemory),
-        Err(DeclarationFault::NotADeclaration(_)) | Err(DeclarationFault::Deep(_)) => Ok(None),
+        Err(fault) => {
+            if is_memory(fault) {
+                Err(NoMemory)
+            } else {
+                Ok(None)
+            }
+        }
     }
 }
 

@@ -1,6 +1,7 @@
 use Rattle.std.proofs.Common.{false, map, drop, sym, ap, subst, ◌+◌, ◌∙◌, arith}
 use Rattle.px_real_declarations.specs.Grammar.{Members}
 use Rattle.px_real_declaring.specs.Items.{nesting_limit}
+use Rattle.px_real_declaring.specs.Whole.{NoneIs}
 use Rattle.px_real_declaring.specs.Trees.{specifier_tree, declaration_tree}
 use Rattle.px_real_types.specs.Scopes.{texts}
 use Rattle.px_real_scopes.specs.Lookups.{are_types}
@@ -41,3 +42,17 @@ enter_specifiers-loop-specifier-preserved t c = record {
       c.specifier-item.result c.loop-specifier-test.true c.specifier-item.is c.enter_specifier.new.scopes c.in_ok-enter_specifier.ensures.comes;
   grows = grows_on c.loop-specifier.invariant.grows c.enter_specifier.ensures.grows;
 }
+
+pub define-returns-in-Ok-clause-comes : goal.define-returns-in-Ok-clause-comes
+define-returns-in-Ok-clause-comes t c =
+    let all = texts c.args.on in
+    let st = c.args.scopes.now in
+    let read = subst (λ s. Members (are_types s.bindings) nesting_limit all (map (declaration_tree all) c.in-Ok.lines.items)) c.scopes.view_is c.in-Ok.ensures in
+    let lent = subst (λ z. Members (are_types st.bindings) nesting_limit all (map (declaration_tree all) z)) (sym c.deref.ensures.value) read in
+    subst (λ o. Comes o c.define_by.new.scopes c.define_by.result) (sym (defined_is c.args.depth all c.args.number st (map (declaration_tree all) c.deref.result.now) (omega (arith, c.if-depth-eq0.false)) lent)) c.define_by.ensures.comes
+
+pub define-returns-in-Err-clause-comes : goal.define-returns-in-Err-clause-comes
+define-returns-in-Err-clause-comes t c =
+    let all = texts c.args.on in
+    not_members (deeper_by c.args.depth) all c.args.number c.args.scopes.now c.args.scopes.now c.in-Err.fault
+    (subst (λ s. NoneIs (Members (are_types s.bindings) nesting_limit all) c.in-Err.fault) c.scopes.view_is c.in-Err.ensures)
