@@ -1,5 +1,6 @@
 -- What is in scope behind a declaration, by what the code does in turn.
-use Rattle.std.proofs.Common.{◌≡◌, ℕ, Bool, true, false, List, [], ◌∷◌, length, map, nat_eq, Option, Some, None, refl, sym, ap, ap₂, ◌∙◌}
+use Rattle.std.proofs.Common.{◌≡◌, ℕ, Bool, true, false, List, [], ◌∷◌, length, map, nat_eq, Option, Some, None, refl, sym, ap, ap₂, ◌∙◌, arith}
+use Rattle.std.proofs.lemmas.Bool.{ne_eqb}
 use Rattle.px_expressions.specs.Reading.{or_else}
 use Rattle.px_real_declarations.specs.DeclarationTree.{SpecifierTree, DeclaredTree, declaration}
 use Rattle.px_real_declarations.specs.Names.{is_typedef}
@@ -18,7 +19,7 @@ not_named o m st h = ap (λ z. with_name z m st) h
 
 pub none_declared : {A : Type 0} (f : A → DeclaredTree) (xs : List A) → nat_eq (length xs) 0 ≡ declares_none (map f xs)
 none_declared f [] = refl
-none_declared f (x ∷ xs) = refl
+none_declared f (x ∷ xs) = ne_eqb (length (x ∷ xs)) 0 (λ h. omega (arith, h))
 
 module _ (st mid new : Scopes) (ss : List SpecifierTree) (xs : List DeclaredTree) (k : Known) (w : List ℕ) (known : k ≡ specified_known mid ss) (word : w ≡ type_word ss) where
   pub declared_behind : (alone is_type : Bool) → alone ≡ declares_none xs → is_type ≡ is_typedef ss → with_specifiers alone ss st ≡ Some mid → new ≡ with_declared is_type k w mid xs → behind st (declaration ss xs) ≡ Some new
