@@ -1,10 +1,9 @@
 -- Where the innermost block begins, and what is bound in it.
-use Rattle.std.proofs.Common.{◌≡◌, ◌≢◌, ℕ, zero, suc, ◌+◌, ◌-◌, ◌*◌, ◌%◌, ◌<◌, ◌≤◌, Bool, true, false, List, [], ◌∷◌, length, take, get_or, map, Option, Some, None, refl, ap, sym, subst, ◌∙◌, inl, inr, arith}
+use Rattle.std.proofs.Common.{◌≡◌, ◌≢◌, ℕ, zero, suc, ◌+◌, ◌-◌, ◌*◌, ◌<◌, ◌≤◌, Bool, List, [], ◌∷◌, length, take, get_or, Option, Some, None, refl, ap, sym, ◌∙◌, inl, inr, arith}
 use Rattle.std.specs.Prelude.{slice_index, fold}
 use Rattle.std.proofs.lemmas.Bool.{cases_lt}
 use Rattle.std.proofs.lemmas.Nat.{mod_below}
 use Rattle.std.proofs.lemmas.List.{take_all, length-map, get_or-map, get_or_default}
-use Rattle.px_base.specs.declared.trace.Site.{Site}
 use Rattle.px_expressions.specs.Reading.{or_else}
 use Rattle.px_chains.specs.Ends.{IsEndOfKey}
 use Rattle.px_real_scopes.specs.declared.meaning.Binding.{Binding}
@@ -12,7 +11,7 @@ use Rattle.px_real_scopes.specs.declared.meaning.Binding.TheVariants as V
 use Rattle.px_real_scopes.specs.Scopes.{BindingTree, begins_block, of_name, of_tag, of_place}
 use Rattle.px_real_scopes.specs.Lookups.{first_said, own_block, behind_block}
 use Rattle.px_real_scopes.specs.Views.{binding_view, bindings_view}
-use Rattle.px_real_scopes.specs.Keys.{key_step, word_key, tag_key, place_key, block_key, binding_key, keys_of, IsLast}
+use Rattle.px_real_scopes.specs.Keys.{key_step, word_key, block_key, binding_key, keys_of, IsLast}
 use Rattle.px_real_scopes.proofs.NearestLemmas.{Says, last_first}
 
 -- ---- no other key is that of a block
@@ -82,8 +81,8 @@ module _ (xs : List Binding) (e : ℕ) (is_end : IsEndOfKey (keys_of xs) block_k
   at_it : behind_block (bindings_view (take e xs)) ≡ bindings_view (take (e - 1) xs)
   at_it = elim (cases_lt 0 e) [
     | inl p ↦ (let w = within in let n : e ≡ e - 1 + 1 = omega arith in let lt : e - 1 < length xs = omega arith in
-      ap behind_block (last_first binding_view xs e (e - 1) V.Block n lt)
-      ∙ ap (λ z. behind_block (z ∷ bindings_view (take (e - 1) xs))) (block_here p))
+        ap behind_block (last_first binding_view xs e (e - 1) V.Block n lt)
+        ∙ ap (λ z. behind_block (z ∷ bindings_view (take (e - 1) xs))) (block_here p))
     | inr z ↦ (let n : e ≡ 0 = omega arith in let m : 0 ≡ e - 1 = omega arith in ap (λ k. behind_block (bindings_view (take k xs))) n ∙ ap (λ k. bindings_view (take k xs)) m)
   ]
 
@@ -115,7 +114,7 @@ module _ (xs : List Binding) (e : ℕ) (is_end : IsEndOfKey (keys_of xs) block_k
     pub not_own : n ≤ e → first_said says (own_block (bindings_view xs)) ≡ None
     not_own g = own_from e (omega arith) g within ∙ elim (cases_lt 0 e) [
       | inl p ↦ (let w = within in let m : e ≡ e - 1 + 1 = omega arith in let lt : e - 1 < length xs = omega arith in
-        ap (λ z. first_said says (own_block z)) (last_first binding_view xs e (e - 1) V.Block m lt) ∙ ap (λ z. first_said says (own_block (z ∷ bindings_view (take (e - 1) xs)))) (block_here p))
+          ap (λ z. first_said says (own_block z)) (last_first binding_view xs e (e - 1) V.Block m lt) ∙ ap (λ z. first_said says (own_block (z ∷ bindings_view (take (e - 1) xs)))) (block_here p))
       | inr z ↦ (let m : e ≡ 0 = omega arith in ap Own m)
     ]
 

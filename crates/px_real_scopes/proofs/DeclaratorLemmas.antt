@@ -1,5 +1,5 @@
 -- Whether a declarator is an array, by what stands behind it.
-use Rattle.std.proofs.Common.{◌≡◌, Bool, true, false, List, [], ◌∷◌, ◌||◌, ◌&&◌, None, is_some, refl, ap, sym, ◌∙◌}
+use Rattle.std.proofs.Common.{◌≡◌, List, [], ◌∷◌, ◌||◌, ◌&&◌, None, is_some, refl, ap, ◌∙◌}
 use Rattle.px_real_expressions.specs.Lexemes.{Lexeme}
 use Rattle.px_real_symbols.specs.Symbols.{held_in}
 use Rattle.px_real_declarations.specs.DeclarationTree.{DeclaratorTree, array, function}

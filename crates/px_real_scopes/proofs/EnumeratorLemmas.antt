@@ -2,7 +2,7 @@
 use Rattle.std.proofs.Common.{◌≡◌, ℕ, ◌+◌, ◌<◌, List, ◌∷◌, length, drop, get_or, map, Option, ap, sym, ◌∙◌}
 use Rattle.std.proofs.lemmas.List.{drop_more}
 use Rattle.px_real_declarations.specs.DeclarationTree.{EnumeratorTree}
-use Rattle.px_real_scopes.specs.Scopes.{BindingTree, Scopes}
+use Rattle.px_real_scopes.specs.Scopes.{Scopes}
 use Rattle.px_real_scopes.specs.Entering.{enumerator_value, counted_on, enumerator_binding, with_enumerators}
 
 -- what is in scope with these

@@ -1,7 +1,5 @@
 -- What parameters say, by their lists.
-use Rattle.std.proofs.Common.{◌≡◌, ◌&&◌, Bool, true, false, List, [], ◌∷◌, length, get_or, map, Option, Some, None, if◌then◌else◌, refl, ap, ap₂, sym, ◌∙◌, arith}
-use Rattle.std.specs.Str.{bytes_eq}
-use Rattle.px_expressions.specs.Reading.{or_else}
+use Rattle.std.proofs.Common.{◌≡◌, ◌&&◌, true, false, List, [], ◌∷◌, length, get_or, map, Some, None, if◌then◌else◌, ap, ap₂, sym, arith}
 use Rattle.px_real_declarations.specs.DeclarationTree.{SpecifierTree, says_type, DeclaredTree, declaration}
 use Rattle.px_real_values.specs.Spelled.{is_nothing}
 use Rattle.px_real_scopes.specs.Knowing.{if_type}

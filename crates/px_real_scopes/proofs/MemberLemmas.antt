@@ -1,5 +1,5 @@
 -- Members, one after the other.
-use Rattle.std.proofs.Common.{◌≡◌, ℕ, ◌+◌, List, [], ◌∷◌, ◌++◌, map, Bool, ◌&&◌, not, Option, Some, None, is_some, option_map, Result, Ok, Err, OnOk, IfOk, refl, ap, ap₂, ◌∙◌}
+use Rattle.std.proofs.Common.{◌≡◌, ℕ, List, [], ◌∷◌, ◌++◌, map, Bool, ◌&&◌, not, Option, Some, None, is_some, option_map, Result, Ok, Err, OnOk, IfOk, refl, ap, ap₂, ◌∙◌}
 use Rattle.px_expressions.specs.Reading.{or_else}
 use Rattle.px_real_declarations.specs.Names.{declared_name}
 use Rattle.px_real_declarations.specs.DeclarationTree.{DeclaredTree}

@@ -1,14 +1,10 @@
 -- What the last that binds says is what the nearest says.
-use Rattle.std.proofs.Common.{◌≡◌, ℕ, zero, suc, ◌+◌, ◌-◌, ◌<◌, ◌≤◌, Bool, true, false, List, [], ◌∷◌, ◌++◌, length, take, drop, get_or, map, reverse, Option, Some, None, refl, ap, sym, subst, ◌∙◌, arith}
-use Rattle.std.specs.Str.{bytes_eq}
+use Rattle.std.proofs.Common.{◌≡◌, ℕ, zero, suc, ◌+◌, ◌-◌, ◌<◌, ◌≤◌, Bool, true, false, List, [], ◌∷◌, length, take, get_or, map, reverse, Option, Some, None, refl, ap, sym, ◌∙◌, arith}
 use Rattle.std.proofs.lemmas.List.{take_more, take_all, map_push, reverse-append}
 use Rattle.px_expressions.specs.Reading.{or_else}
 use Rattle.px_base.specs.declared.trace.Site.{Site}
-use Rattle.px_real_scopes.specs.declared.meaning.Binding.{Binding}
-use Rattle.px_real_scopes.specs.declared.meaning.Binding.TheVariants as V
-use Rattle.px_real_scopes.specs.Scopes.{MeaningTree, TagTree, BindingTree, begins_block, of_name, of_tag, of_place}
-use Rattle.px_real_scopes.specs.Lookups.{first_said, says_name, says_tag, says_place, same_place, own_block}
-use Rattle.px_real_scopes.specs.Views.{binding_view, bindings_view}
+use Rattle.px_real_scopes.specs.Scopes.{BindingTree, begins_block, of_name, of_tag, of_place}
+use Rattle.px_real_scopes.specs.Lookups.{first_said, says_name, says_tag, says_place}
 use Rattle.px_real_scopes.specs.Keys.{IsLast, binds_name, binds_tag, binds_place, meaning_bound, tag_bound, number_bound}
 
 -- what binds says what is bound, and nothing else says anything
@@ -65,6 +61,7 @@ says_names word = record { here = here; not_here = not_here }
     here (of_name name m) bs h = rw h refl
     here (of_tag name t) bs h = absurd cc
     here (of_place site n) bs h = absurd cc
+
     not_here : (b : BindingTree) → binds_name word b ≡ false → says_name word b ≡ None
     not_here begins_block h = refl
     not_here (of_name name m) h = rw h refl
@@ -79,6 +76,7 @@ says_tags word = record { here = here; not_here = not_here }
     here (of_name name m) bs h = absurd cc
     here (of_tag name t) bs h = rw h refl
     here (of_place site n) bs h = absurd cc
+
     not_here : (b : BindingTree) → binds_tag word b ≡ false → says_tag word b ≡ None
     not_here begins_block h = refl
     not_here (of_name name m) h = refl
@@ -93,6 +91,7 @@ says_places site = record { here = here; not_here = not_here }
     here (of_name name m) bs h = absurd cc
     here (of_tag name t) bs h = absurd cc
     here (of_place place n) bs h = rw h refl
+
     not_here : (b : BindingTree) → binds_place site b ≡ false → says_place site b ≡ None
     not_here begins_block h = refl
     not_here (of_name name m) h = refl

@@ -1,5 +1,5 @@
 -- What is read of held tokens is what the grammar says of them.
-use Rattle.std.proofs.Common.{◌≡◌, List, false, Option, Some, None, Ok, Err, refl, sym, ap}
+use Rattle.std.proofs.Common.{◌≡◌, List, false, Option, Some, None, refl, sym, ap}
 use Rattle.px_real_expressions.specs.Lexemes.{Lexeme}
 use Rattle.px_real_expressions.specs.Stops.{Read}
 use Rattle.px_real_declarations.specs.DeclarationTree.{DeclarationTree, EnumeratorTree, ParametersTree}

@@ -1,7 +1,7 @@
 -- What is in scope behind a declaration, a function's head and a parameter (C11 6.2.1, 6.7, 6.9.1).
 use Rattle.std.specs.Prelude.{◌≡◌, ℕ, List, [], ◌∷◌, Bool, true, false, Option, Some, None, Result, Ok, Err}
 use Rattle.px_expressions.specs.Reading.{or_else}
-use Rattle.px_real_declarations.specs.DeclarationTree.{SpecifierTree, DeclaredTree, DeclarationTree, declaration, assertion, HeadTree}
+use Rattle.px_real_declarations.specs.DeclarationTree.{DeclaredTree, DeclarationTree, declaration, assertion, HeadTree}
 use Rattle.px_real_declarations.specs.Names.{declared_name, is_typedef}
 use Rattle.px_real_declaring.specs.declared.reading.DeclarationFault.{DeclarationFault}
 use Rattle.px_real_declaring.specs.declared.reading.DeclarationFault.TheVariants as D

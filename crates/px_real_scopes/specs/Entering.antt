@@ -10,7 +10,6 @@ use Rattle.px_real_declarations.specs.DeclarationTree.{SpecifierTree, tagged, De
 use Rattle.px_real_declarations.specs.HeldReading.{members_at, enumerators_at}
 use Rattle.px_real_declarations.specs.Names.{declared_name}
 use Rattle.px_real_declaring.specs.Items.{nesting_limit}
-use Rattle.px_real_types.specs.declared.shape.ProfileType.{ProfileType}
 use Rattle.px_real_types.specs.Shapes.{in_profile}
 use Rattle.px_real_types.specs.Words.{is_struct_word}
 use Rattle.px_real_names.specs.Enumerated.{as_whole, struct_limit}

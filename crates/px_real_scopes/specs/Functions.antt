@@ -3,7 +3,7 @@ use Rattle.std.specs.Prelude.{ℕ, List, [], ◌∷◌, map, Bool, true, false, 
 use Rattle.std.specs.Str.{bytes_eq}
 use Rattle.px_expressions.specs.Reading.{or_else}
 use Rattle.px_real_expressions.specs.Lexemes.{Lexeme}
-use Rattle.px_real_declarations.specs.DeclarationTree.{SpecifierTree, keyword, DeclaratorTree, no_name, DeclaredTree, DeclarationTree, declaration, assertion, ParametersTree, parameters, identifiers, HeadTree}
+use Rattle.px_real_declarations.specs.DeclarationTree.{SpecifierTree, keyword, DeclaredTree, DeclarationTree, declaration, assertion, ParametersTree, parameters, identifiers, HeadTree}
 use Rattle.px_real_declarations.specs.HeldReading.{parameters_at}
 use Rattle.px_real_declarations.specs.Names.{declared_name}
 use Rattle.px_real_declaring.specs.Items.{nesting_limit}

@@ -1,5 +1,5 @@
 -- What is known of the type that a declaration says: its shape, and beyond that which struct or union it is, or that it is an array.
-use Rattle.std.specs.Prelude.{ℕ, List, [], ◌∷◌, Bool, true, false, ◌||◌, Option, Some, None, is_some, codes, if◌then◌else◌}
+use Rattle.std.specs.Prelude.{ℕ, List, ◌∷◌, Bool, true, false, ◌||◌, Option, Some, None, is_some, codes, if◌then◌else◌}
 use Rattle.px_expressions.specs.Reading.{or_else}
 use Rattle.px_real_declarations.specs.DeclarationTree.{SpecifierTree, keyword, type_name, group, tagged, says_type, DeclaratorTree, no_name, a_name, inner, pointer, array, function, DeclaredTree}
 use Rattle.px_real_declaring.specs.declared.tree.Suffix.{Suffix}

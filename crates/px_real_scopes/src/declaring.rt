@@ -154,17 +154,20 @@ fn bring(
     with_specifiers(alloc, scopes, on, declared.is_empty(), specifiers)?;
     let known = scopes.specified_known(on, specifiers);
     let word = type_word(alloc, specifiers)?;
-    add_all(alloc, scopes, on, is_typedef(specifiers), known, &word, declared)?;
+    add_all(
+        alloc,
+        scopes,
+        on,
+        is_typedef(specifiers),
+        known,
+        &word,
+        declared,
+    )?;
     Ok(())
 }
 
 // What the name of a function means that is defined.
-fn head_meaning(
-    alloc: Global,
-    scopes: &Scopes,
-    on: Texts,
-    head: &Head,
-) -> Result<Meaning, NoMemory>
+fn head_meaning(alloc: Global, scopes: &Scopes, on: Texts, head: &Head) -> Result<Meaning, NoMemory>
     ensures { IfOk result (λ m. meaning_view m ≡ Rules.head_meaning scopes.now (head_tree (texts on.entry) head.now)) }
 {
     let word = type_word(alloc, &head.specifiers)?;
@@ -182,12 +185,7 @@ fn head_meaning(
 }
 
 // A function that is defined comes into scope, if it has a name.
-fn add_head(
-    alloc: Global,
-    scopes: &mut Scopes,
-    on: Texts,
-    head: &Head,
-) -> Result<(), NoMemory>
+fn add_head(alloc: Global, scopes: &mut Scopes, on: Texts, head: &Head) -> Result<(), NoMemory>
     ensures added { OnOk result (scopes.new ≡ Rules.with_head scopes.old (head_tree (texts on.entry) head.now)) }
     ensures refused { OnErr result (scopes.new ≡ scopes.old) }
 {

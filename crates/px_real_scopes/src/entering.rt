@@ -7,8 +7,8 @@ ghost use Rattle.px_real_scopes.specs.Views.{binding_view};
 ghost use Rattle.px_real_scopes.specs.Steps.{Comes, Grows};
 
 use crate::enumerators::with_enumeration;
-use crate::members::MemberList;
 use crate::meaning::{Binding, Definition, Tag};
+use crate::members::MemberList;
 use crate::scopes::{Scopes, record_in};
 use px_base::Site;
 use px_real_declarations::Role;
@@ -112,11 +112,7 @@ fn meant_record(alloc: Global, scopes: &mut Scopes, naming: Naming) -> Result<u3
 }
 
 // The struct or union with this number is defined.
-fn add_definition(
-    scopes: &mut Scopes,
-    number: u32,
-    members: MemberList,
-) -> Result<(), NoMemory>
+fn add_definition(scopes: &mut Scopes, number: u32, members: MemberList) -> Result<(), NoMemory>
     ensures added { OnOk result (scopes.new ≡ Rules.with_definition number (scopes.old, members.members)) }
     ensures refused { OnErr result (scopes.new ≡ scopes.old) }
 {

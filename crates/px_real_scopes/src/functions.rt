@@ -15,7 +15,10 @@ use crate::scopes::Scopes;
 use px_real_declaring::{Declaration, DeclarationFault, Declared, Specifier};
 use px_real_members::{Head, Parameters, parameters_of};
 use px_real_names::enumerated::within;
-use px_real_types::{Base, ProfileType, Shape, Signature, Texts, declared_name, declared_shape, parameter_of, specified};
+use px_real_types::{
+    Base, ProfileType, Shape, Signature, Texts, declared_name, declared_shape, parameter_of,
+    specified,
+};
 use px_syntax::Name;
 use px_terms::NoMemory;
 use std::alloc::Global;
@@ -96,11 +99,7 @@ fn is_memory(fault: DeclarationFault) -> bool
 }
 
 // What stands between the parentheses of a function, where it is read.
-fn parameters_in(
-    alloc: Global,
-    scopes: &Scopes,
-    on: Texts,
-) -> Result<Option<Parameters>, NoMemory>
+fn parameters_in(alloc: Global, scopes: &Scopes, on: Texts) -> Result<Option<Parameters>, NoMemory>
     ensures { IfOk result (λ o. option_map (parameters_tree (texts on.entry)) o ≡ Rules.parameters_in scopes.now (texts on.entry)) }
 {
     match parameters_of(alloc, on.source, on.tokens, scopes) {
@@ -136,10 +135,12 @@ fn declared_by(
 ) -> Result<Function, NoMemory>
     ensures { IfOk result (λ f. function_view f ≡ Rules.declared_by scopes.now gives (option_map (parameters_tree (texts on.entry)) parameters.now)) }
 {
-    let Some(Parameters::Declared {
-        parameters,
-        variadic,
-    }) = parameters
+    let Some(
+        Parameters::Declared {
+            parameters,
+            variadic,
+        },
+    ) = parameters
     else {
         return Ok(open_function(alloc, gives));
     };
@@ -161,7 +162,13 @@ pub fn declared_function(
 {
     let inside = within(on, signature.parameters);
     let parameters = parameters_in(alloc, scopes, inside)?;
-    declared_by(alloc, scopes, inside, signature.gives.in_profile(), &parameters)
+    declared_by(
+        alloc,
+        scopes,
+        inside,
+        signature.gives.in_profile(),
+        &parameters,
+    )
 }
 
 // An int.
@@ -185,7 +192,11 @@ fn says_named(
     ensures { result ≡ Rules.says_named word.now shape (declared_tree (texts on.entry) declared.now) name.now }
 {
     if word == name {
-        Some(declared_shape(declared, on, shape).as_parameter().in_profile())
+        Some(
+            declared_shape(declared, on, shape)
+                .as_parameter()
+                .in_profile(),
+        )
     } else {
         None
     }

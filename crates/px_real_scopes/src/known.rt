@@ -36,10 +36,12 @@ fn beyond(known: Known) -> Known
     match known {
         Known::Array | Known::Seen(Shape::Array { .. }) => Known::Array,
         Known::Record(number) => Known::Record(number),
-        Known::Seen(Shape::Value {
-            base: Base::Struct(number),
-            stars: 0,
-        }) => Known::Record(number),
+        Known::Seen(
+            Shape::Value {
+                base: Base::Struct(number),
+                stars: 0,
+            },
+        ) => Known::Record(number),
         _ => unknown(),
     }
 }

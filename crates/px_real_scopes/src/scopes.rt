@@ -341,12 +341,7 @@ impl Scopes {
     }
 
     // A name means this.
-    pub fn add_name(
-        &mut self,
-        alloc: Global,
-        name: &[u8],
-        meaning: Meaning,
-    ) -> Result<(), NoMemory>
+    pub fn add_name(&mut self, alloc: Global, name: &[u8], meaning: Meaning) -> Result<(), NoMemory>
         ensures added { OnOk result (self.new ≡ with_name (Some name.now) (meaning_view meaning) self.old) }
         ensures refused { OnErr result (self.new ≡ self.old) }
     {

@@ -1,4 +1,3 @@
-use Rattle.std.proofs.Common.{◌≡◌}
 use Rattle.px_real_scopes.proofs.KeyLemmas.{Reached}
 use Rattle.px_real_scopes.proofs.bindings.last_bound.Given as goal
 

@@ -1,4 +1,4 @@
-use Rattle.std.proofs.Common.{◌≡◌, length, true, ◌&&◌, sym, ap, ap₂, ◌∙◌, arith}
+use Rattle.std.proofs.Common.{◌≡◌, length, true, ◌&&◌, sym, ap, ◌∙◌, arith}
 use Rattle.px_real_declaring.specs.Trees.{specifier_tree, declarator_tree, declared_tree, declaration_tree}
 use Rattle.px_real_values.specs.Spelled.{is_nothing}
 use Rattle.px_real_scopes.specs.Functions.{is_void_word, is_void}
