@@ -14,3 +14,4 @@ pub mod FunctionLemmas
 pub mod MemberLemmas
 pub mod EnteringLemmas
 pub mod BehindLemmas
+pub mod CellLaws
