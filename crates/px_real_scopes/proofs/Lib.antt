@@ -15,3 +15,4 @@ pub mod MemberLemmas
 pub mod EnteringLemmas
 pub mod BehindLemmas
 pub mod CellLaws
+pub mod BlockLaws

@@ -1,12 +1,13 @@
--- What holds of the members of structs and unions.
-use Rattle.std.specs.Prelude.{◌≡◌, ℕ, zero, suc, List, [], ◌∷◌, ◌++◌, Bool, true}
-use Rattle.px_real_declarations.specs.DeclarationTree.{SpecifierTree, DeclaredTree, declaration}
+-- What holds of what is in scope, and of the members of structs and unions.
+use Rattle.std.specs.Prelude.{◌≡◌, ℕ, zero, suc, List, [], ◌∷◌, ◌++◌, Bool, true, Some}
+use Rattle.px_real_declarations.specs.DeclarationTree.{SpecifierTree, DeclaredTree, DeclarationTree, declaration}
 use Rattle.px_real_types.specs.Cells.{CellTree, cells_in}
 use Rattle.px_real_values.specs.declared.known.Member.{Member}
 use Rattle.px_real_values.specs.declared.known.Member.TheVariants as N
 use Rattle.px_real_scopes.specs.Scopes.{NamedTree, Scopes}
-use Rattle.px_real_scopes.specs.Lookups.{meanings}
-use Rattle.px_real_scopes.specs.Entering.{cells_among, with_members}
+use Rattle.px_real_scopes.specs.Lookups.{meanings, entered, left}
+use Rattle.px_real_scopes.specs.Entering.{in_turn, cells_among, with_members}
+use Rattle.px_real_scopes.specs.Behind.{behind}
 
 -- ---- the cells of a struct are those that px_real_types says, declaration by declaration
 
@@ -40,3 +41,8 @@ AreNumbered ms = cell_numbers ms ≡ counted_to (cells_among ms)
 
 abbrev pub CellsAreNumbered : Type 0
 CellsAreNumbered = (cells : Bool) (st : Scopes) (ss : List SpecifierTree) (xs : List DeclaredTree) (ms : List NamedTree) → AreNumbered ms → AreNumbered (with_members cells st ss ms xs)
+
+-- ---- whatever declarations stand in a block, behind it all is in scope that was before it
+
+abbrev pub BlocksAreLeft : Type 0
+BlocksAreLeft = (st st1 : Scopes) (ds : List DeclarationTree) → in_turn behind (entered st) ds ≡ Some st1 → (left st1).bindings ≡ st.bindings
