@@ -1,5 +1,6 @@
 -- What declarations add is no block.
-use Rattle.std.proofs.Common.{◌≡◌, ℕ, zero, suc, Bool, true, false, List, [], ◌∷◌, ◌++◌, Option, Some, None, is_some, length, refl, ap, sym, subst, ◌∙◌, append_assoc}
+use Rattle.std.proofs.Common.{◌≡◌, ℕ, zero, suc, Bool, false, List, [], ◌∷◌, ◌++◌, Option, Some, None, is_some, length, refl, ap, sym, subst, ◌∙◌, append_assoc}
+use Rattle.std.proofs.lemmas.Option.{same_Some}
 use Rattle.px_base.specs.declared.trace.Site.{Site}
 use Rattle.px_expressions.specs.Reading.{or_else}
 use Rattle.px_real_expressions.specs.Lexemes.{Lexeme}
@@ -14,9 +15,9 @@ use Rattle.px_real_types.specs.Words.{is_struct_word}
 use Rattle.px_real_names.specs.Enumerated.{as_whole, struct_limit}
 use Rattle.px_real_values.specs.declared.known.Known.{Known}
 use Rattle.px_real_scopes.specs.Scopes.{MeaningTree, TagTree, an_enumeration, BindingTree, begins_block, of_name, of_tag, of_place, NamedTree, Scopes}
-use Rattle.px_real_scopes.specs.Lookups.{behind_block, entered, left, is_seen, are_types}
+use Rattle.px_real_scopes.specs.Lookups.{behind_block, entered, is_seen, are_types}
 use Rattle.px_real_scopes.specs.Knowing.{type_word, specified_known}
-use Rattle.px_real_scopes.specs.Entering.{in_turn, counted_on, enumerator_value, enumerator_binding, with_enumerators, with_tag, with_enumerated, with_enumeration, declared_number, record_binding, new_record, meant_record, Entering, with_members, with_line, with_definition, defined_by, defined_as, defined_if, entered_record, with_tagged, with_specifier, deeper_by, with_specifiers}
+use Rattle.px_real_scopes.specs.Entering.{in_turn, counted_on, enumerator_value, enumerator_binding, with_enumerators, with_tag, with_enumerated, with_enumeration, declared_number, record_binding, new_record, meant_record, Entering, with_members, with_line, with_definition, defined_by, defined_if, with_tagged, with_specifier, deeper_by, with_specifiers}
 use Rattle.px_real_scopes.specs.Behind.{with_name, declared_meaning, with_one, with_declared, declares_none, behind}
 use Rattle.px_real_scopes.specs.Laws.{BlocksAreLeft}
 
@@ -68,19 +69,16 @@ came : {A B : Type 0} (o : Option A) (f : A → Option B) (b : B) → or_else o 
 came (Some a) f b h = (a, refl, h)
 came None f b h = absurd cc
 
-same_some : {A : Type 0} (a b : A) → Some a ≡ Some b → a ≡ b
-same_some a b h = cc
-
 abbrev Grown : Scopes → Scopes → Type 0
 Grown st st1 = Adds st.bindings st1.bindings
 
 grown_is : (st mid st1 : Scopes) → Grown st mid → Some mid ≡ Some st1 → Grown st st1
-grown_is st mid st1 g h = subst (λ z. Grown st z) (same_some mid st1 h) g
+grown_is st mid st1 g h = subst (λ z. Grown st z) (same_Some mid st1 h) g
 
 -- one after the other
 turns : {A S : Type 0} (bindings : S → List BindingTree) (next : S → A → Option S) → ((st : S) (x : A) (st1 : S) → next st x ≡ Some st1 → Adds (bindings st) (bindings st1)) →
     (xs : List A) (st st1 : S) → in_turn next st xs ≡ Some st1 → Adds (bindings st) (bindings st1)
-turns bindings next one [] st st1 h = subst (λ z. Adds (bindings st) (bindings z)) (same_some st st1 h) (adds_none (bindings st))
+turns bindings next one [] st st1 h = subst (λ z. Adds (bindings st) (bindings z)) (same_Some st st1 h) (adds_none (bindings st))
 turns bindings next one (x ∷ xs) st st1 h = let c = came (next st x) (λ z. in_turn next z xs) st1 h in adds_on (one st x c.0 c.1) (turns bindings next one xs c.0 st1 c.2)
 
 -- ---- specifiers
@@ -103,10 +101,10 @@ IfGrow (Some e) = AllGrow e
 IfGrow None = Unit {0}
 
 line_grows : (deeper : Entering) → AllGrow deeper → (cells : Bool) (x : Scopes × List NamedTree) (d : DeclarationTree) (y : Scopes × List NamedTree) → with_line deeper cells x d ≡ Some y → Grown x.0 y.0
-line_grows deeper g cells x (assertion a) y h = subst (λ z. Grown x.0 z.0) (same_some x y h) (adds_none x.0.bindings)
+line_grows deeper g cells x (assertion a) y h = subst (λ z. Grown x.0 z.0) (same_Some x y h) (adds_none x.0.bindings)
 line_grows deeper g cells x (declaration ss xs) y h =
     let c = came (in_turn deeper x.0 ss) (λ st. Some (st, with_members cells st ss x.1 xs)) y h in
-    subst (λ z. Grown x.0 z.0) (same_some (c.0, with_members cells c.0 ss x.1 xs) y c.2) (turns (λ st. st.bindings) deeper g ss x.0 c.0 c.1)
+    subst (λ z. Grown x.0 z.0) (same_Some (c.0, with_members cells c.0 ss x.1 xs) y c.2) (turns (λ st. st.bindings) deeper g ss x.0 c.0 c.1)
 
 defined_grows : (deeper : Entering) → AllGrow deeper → (n : ℕ) (st : Scopes) (ds : List DeclarationTree) (st1 : Scopes) → defined_by deeper n st ds ≡ Some st1 → Grown st st1
 defined_grows deeper g n st ds st1 h =

@@ -2,7 +2,7 @@
 use Rattle.std.proofs.Common.{◌≡◌, ℕ, suc, ◌+◌, Bool, true, false, ◌&&◌, not, List, [], ◌∷◌, ◌++◌, map, Option, Some, None, is_some, if◌then◌else◌, refl, ap, sym, ◌∙◌, append_assoc, arith}
 use Rattle.std.proofs.lemmas.List.{append-nil}
 use Rattle.px_expressions.specs.Reading.{or_else}
-use Rattle.px_real_declarations.specs.DeclarationTree.{SpecifierTree, DeclaredTree}
+use Rattle.px_real_declarations.specs.DeclarationTree.{DeclaredTree}
 use Rattle.px_real_declarations.specs.Names.{declared_name}
 use Rattle.px_real_types.specs.declared.shape.Shape.{Shape}
 use Rattle.px_real_types.specs.declared.shape.Shape.TheVariants as S
@@ -16,10 +16,10 @@ use Rattle.px_real_values.specs.declared.known.Known.TheVariants as K
 use Rattle.px_real_values.specs.declared.known.Member.{Member}
 use Rattle.px_real_values.specs.declared.known.Member.TheVariants as N
 use Rattle.px_real_values.specs.Types.{unknown, is_array, record_in}
-use Rattle.px_real_scopes.specs.Scopes.{NamedTree, Scopes}
+use Rattle.px_real_scopes.specs.Scopes.{NamedTree}
 use Rattle.px_real_scopes.specs.Lookups.{seen, meanings}
 use Rattle.px_real_scopes.specs.Knowing.{with_shape, said_known, specified_known, beyond_declarator, declared_known}
-use Rattle.px_real_scopes.specs.Entering.{counted, cells_among, no_cell, with_member, with_each, inherited, members_without_a_name, with_members}
+use Rattle.px_real_scopes.specs.Entering.{counted, cells_among, no_cell, with_member, with_each, inherited, members_without_a_name}
 use Rattle.px_real_scopes.specs.Laws.{cell_made, cells_of, CellsAgree, number_made, cell_numbers, counted_to, AreNumbered, CellsAreNumbered}
 use Rattle.px_real_scopes.proofs.MemberLemmas.{cells_pushed}
 
