@@ -1,7 +1,7 @@
 -- What is in scope behind a declaration, a function's head and a parameter (C11 6.2.1, 6.7, 6.9.1).
 use Rattle.std.specs.Prelude.{◌≡◌, ℕ, List, [], ◌∷◌, Bool, true, false, Option, Some, None, Result, Ok, Err}
 use Rattle.px_expressions.specs.Reading.{or_else}
-use Rattle.px_real_declarations.specs.DeclarationTree.{SpecifierTree, DeclaredTree, DeclarationTree, declaration, assertion, HeadTree}
+use Rattle.px_real_declarations.specs.DeclarationTree.{DeclaredTree, DeclarationTree, declaration, assertion, HeadTree}
 use Rattle.px_real_declarations.specs.Names.{declared_name, is_typedef}
 use Rattle.px_real_declaring.specs.declared.reading.DeclarationFault.{DeclarationFault}
 use Rattle.px_real_declaring.specs.declared.reading.DeclarationFault.TheVariants as D
@@ -51,8 +51,11 @@ abbrev pub head_meaning : Scopes → HeadTree → MeaningTree
 head_meaning st h =
     or_else (function_in h.declarator (specified (meanings st) h.specifiers)) (λ f. a_function (defined_function st h f) (type_word h.specifiers)) (an_object unknown (type_word h.specifiers))
 
+abbrev pub with_head : Scopes → HeadTree → Scopes
+with_head st h = with_name (declared_name h.declarator) (head_meaning st h) st
+
 abbrev pub behind_head : Scopes → HeadTree → Option Scopes
-behind_head st h = or_else (with_specifiers false h.specifiers st) (λ st1. Some (with_name (declared_name h.declarator) (head_meaning st1 h) st1)) None
+behind_head st h = or_else (with_specifiers false h.specifiers st) (λ st1. Some (with_head st1 h)) None
 
 -- ---- a declaration of parameters of a function that is defined: each is an object
 

@@ -10,7 +10,6 @@ use Rattle.px_real_declarations.specs.DeclarationTree.{SpecifierTree, tagged, De
 use Rattle.px_real_declarations.specs.HeldReading.{members_at, enumerators_at}
 use Rattle.px_real_declarations.specs.Names.{declared_name}
 use Rattle.px_real_declaring.specs.Items.{nesting_limit}
-use Rattle.px_real_types.specs.declared.shape.ProfileType.{ProfileType}
 use Rattle.px_real_types.specs.Shapes.{in_profile}
 use Rattle.px_real_types.specs.Words.{is_struct_word}
 use Rattle.px_real_names.specs.Enumerated.{as_whole, struct_limit}
@@ -55,11 +54,13 @@ abbrev pub with_tag : Option (List ℕ) → TagTree → List BindingTree → Lis
 with_tag (Some tag) t bs = of_tag tag t ∷ bs
 with_tag None t bs = bs
 
+abbrev pub with_enumerated : Option (List ℕ) → List EnumeratorTree → Scopes → Scopes
+with_enumerated tag es st = record st { bindings = with_enumerators (Some 0) es (with_tag tag an_enumeration st.bindings) }
+
 -- an enumeration is declared where its enumerators stand; the first counts as 0
 abbrev pub with_enumeration : Option (List ℕ) → Option (List Lexeme) → Scopes → Option Scopes
 with_enumeration tag None st = Some st
-with_enumeration tag (Some held) st =
-    or_else (as_whole (enumerators_at held)) (λ es. Some (record st { bindings = with_enumerators (Some 0) es (with_tag tag an_enumeration st.bindings) })) None
+with_enumeration tag (Some held) st = or_else (as_whole (enumerators_at held)) (λ es. Some (with_enumerated tag es st)) None
 
 -- ---- which struct or union is meant (6.7.2.3)
 
@@ -69,11 +70,14 @@ if_open st o = or_else o (λ n. if is_defined st n then None else Some n) None
 
 -- what stands between braces defines the one of the innermost block, if that is declared and isn't defined yet; and a declaration of nothing but
 -- the tag means the one of the innermost block
+abbrev pub tagged_number : Scopes → Bool → Bool → List ℕ → Option ℕ
+tagged_number st alone true tag = if_open st (number_in (tag_of (own_block st.bindings) tag))
+tagged_number st true false tag = number_in (tag_of (own_block st.bindings) tag)
+tagged_number st false false tag = number_in (tag_of st.bindings tag)
+
 abbrev pub declared_number : Scopes → Bool → Bool → Option (List ℕ) → Option ℕ
+declared_number st alone defines (Some tag) = tagged_number st alone defines tag
 declared_number st alone defines None = None
-declared_number st alone true (Some tag) = if_open st (number_in (tag_of (own_block st.bindings) tag))
-declared_number st true false (Some tag) = number_in (tag_of (own_block st.bindings) tag)
-declared_number st false false (Some tag) = number_in (tag_of st.bindings tag)
 
 abbrev pub record_binding : Option (List ℕ) → Site → ℕ → BindingTree
 record_binding (Some tag) site n = of_tag tag (a_record n)
@@ -89,13 +93,14 @@ meant_record is_struct alone defines tag site st = or_else (declared_number st a
 
 -- ---- members
 
-abbrev pub is_cell : Member → Bool
-is_cell (N.Cell number kind) = true
-is_cell (N.Other k) = false
+-- how many cells there are with this member
+abbrev pub counted : ℕ → Member → ℕ
+counted n (N.Cell number kind) = n + 1
+counted n (N.Other k) = n
 
 abbrev pub cells_among : List NamedTree → ℕ
 cells_among [] = 0
-cells_among (m ∷ ms) = if is_cell m.member then cells_among ms + 1 else cells_among ms
+cells_among (m ∷ ms) = counted (cells_among ms) m.member
 
 -- the cell with this number, where it may be one and has a type of the profile
 abbrev pub member_made : Bool → ℕ → Known → Member
@@ -118,13 +123,16 @@ abbrev pub inherited : NamedTree → NamedTree
 inherited m = record { name = m.name; member = no_cell m.member }
 
 -- the number of a struct or union without a tag
-abbrev pub nameless_number : List BindingTree → Option SpecifierTree → Option ℕ
-nameless_number bs (Some (tagged word site gs None held)) = placed bs site
+abbrev pub nameless_number : List BindingTree → SpecifierTree → Option ℕ
+nameless_number bs (tagged word site gs None held) = placed bs site
 nameless_number bs _ = None
+
+abbrev pub members_without_a_name : Scopes → List SpecifierTree → Option (List NamedTree)
+members_without_a_name st ss = or_else (type_specifier ss) (λ s. or_else (nameless_number st.bindings s) (members_of st) None) None
 
 -- of a member without a name that is one, its members are members, and no cells (6.7.2.1, 13)
 abbrev pub nameless_members : Scopes → List SpecifierTree → List NamedTree
-nameless_members st ss = or_else (nameless_number st.bindings (type_specifier ss)) (λ n. or_else (members_of st n) (λ ms. map inherited ms) []) []
+nameless_members st ss = or_else (members_without_a_name st ss) (λ ms. map inherited ms) []
 
 abbrev pub with_members : Bool → Scopes → List SpecifierTree → List NamedTree → List DeclaredTree → List NamedTree
 with_members cells st ss ms [] = ms ++ nameless_members st ss
@@ -144,11 +152,13 @@ with_line deeper cells x (assertion g) = Some x
 abbrev pub with_definition : ℕ → Scopes × List NamedTree → Scopes
 with_definition n x = record x.0 { definitions = record { number = n; members = x.1 } ∷ x.0.definitions }
 
--- what stands between the braces of the one with this number, which may hold others by `deeper`
+-- the one with this number with these members, which may hold others by `deeper`
+abbrev pub defined_by : Entering → ℕ → Scopes → List DeclarationTree → Option Scopes
+defined_by deeper n st ds = or_else (in_turn (with_line deeper (is_seen st n)) (st, []) ds) (λ x. Some (with_definition n x)) None
+
+-- with what stands between its braces
 abbrev pub defined_as : Option Entering → List Lexeme → ℕ × Scopes → Option Scopes
-defined_as (Some deeper) held (n, st) =
-    or_else (as_whole (members_at (are_types st.bindings) nesting_limit held))
-    (λ ds. or_else (in_turn (with_line deeper (is_seen st n)) (st, []) ds) (λ x. Some (with_definition n x)) None) None
+defined_as (Some deeper) held (n, st) = or_else (as_whole (members_at (are_types st.bindings) nesting_limit held)) (defined_by deeper n st) None
 defined_as None held (n, st) = None
 
 abbrev pub defined_if : Option Entering → Option (List Lexeme) → ℕ × Scopes → Option Scopes

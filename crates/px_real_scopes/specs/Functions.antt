@@ -3,7 +3,7 @@ use Rattle.std.specs.Prelude.{ℕ, List, [], ◌∷◌, map, Bool, true, false, 
 use Rattle.std.specs.Str.{bytes_eq}
 use Rattle.px_expressions.specs.Reading.{or_else}
 use Rattle.px_real_expressions.specs.Lexemes.{Lexeme}
-use Rattle.px_real_declarations.specs.DeclarationTree.{SpecifierTree, keyword, DeclaratorTree, no_name, DeclaredTree, DeclarationTree, declaration, assertion, ParametersTree, parameters, identifiers, HeadTree}
+use Rattle.px_real_declarations.specs.DeclarationTree.{SpecifierTree, keyword, DeclaredTree, DeclarationTree, declaration, assertion, ParametersTree, parameters, identifiers, HeadTree}
 use Rattle.px_real_declarations.specs.HeldReading.{parameters_at}
 use Rattle.px_real_declarations.specs.Names.{declared_name}
 use Rattle.px_real_declaring.specs.Items.{nesting_limit}
@@ -58,8 +58,11 @@ declared_function st f = declared_by st (in_profile f.gives) (parameters_in st f
 -- ---- a definition
 
 -- in an old-style definition: the type of the parameter with this name, where it is declared
+abbrev pub says_named : List ℕ → Shape → DeclaredTree → List ℕ → Option (Option ProfileType)
+says_named word s x name = if bytes_eq word name then Some (in_profile (as_parameter (declared_shape x s))) else None
+
 abbrev pub says_parameter : List ℕ → Shape → DeclaredTree → Option (Option ProfileType)
-says_parameter word s x = or_else (declared_name x.declarator) (λ name. if bytes_eq word name then Some (in_profile (as_parameter (declared_shape x s))) else None) None
+says_parameter word s x = or_else (declared_name x.declarator) (says_named word s x) None
 
 abbrev pub says_among : List ℕ → Shape → List DeclaredTree → Option (Option ProfileType)
 says_among word s xs = first_said (says_parameter word s) xs

@@ -1,7 +1,9 @@
 -- What is known of the type that a declaration says: its shape, and beyond that which struct or union it is, or that it is an array.
-use Rattle.std.specs.Prelude.{ℕ, List, [], ◌∷◌, Bool, true, false, ◌||◌, Option, Some, None, is_some, codes, if◌then◌else◌}
+use Rattle.std.specs.Prelude.{ℕ, List, ◌∷◌, Bool, true, false, ◌||◌, Option, Some, None, is_some, codes, if◌then◌else◌}
 use Rattle.px_expressions.specs.Reading.{or_else}
 use Rattle.px_real_declarations.specs.DeclarationTree.{SpecifierTree, keyword, type_name, group, tagged, says_type, DeclaratorTree, no_name, a_name, inner, pointer, array, function, DeclaredTree}
+use Rattle.px_real_declaring.specs.declared.tree.Suffix.{Suffix}
+use Rattle.px_real_declaring.specs.declared.tree.Suffix.TheVariants as X
 use Rattle.px_real_types.specs.declared.shape.Shape.{Shape}
 use Rattle.px_real_types.specs.declared.shape.Shape.TheVariants as S
 use Rattle.px_real_types.specs.Shapes.{as_parameter}
@@ -64,9 +66,17 @@ is_array_of (pointer site ss d) = is_array_of d
 is_array_of (array site d held) = is_some (bare_name d) || is_array_of d
 is_array_of (function site d held) = is_array_of d
 
+-- whether brackets are the first that stands behind a declarator
+abbrev pub begins_array : List Suffix → Bool
+begins_array (X.Array site held ∷ ss) = true
+begins_array _ = false
+
 -- what is known beyond the shape: of a name alone what its specifiers say
+abbrev pub beyond_by : Bool → Bool → Known → Known
+beyond_by bare brackets k = if bare then k else (if brackets then K.Array else unknown)
+
 abbrev pub beyond_declarator : DeclaratorTree → Known → Known
-beyond_declarator d k = if is_some (bare_name d) then k else (if is_array_of d then K.Array else unknown)
+beyond_declarator d k = beyond_by (is_some (bare_name d)) (is_array_of d) k
 
 -- the type of what is declared, where its specifiers say this one
 abbrev pub declared_known : DeclaredTree → Known → Known

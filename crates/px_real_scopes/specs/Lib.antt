@@ -7,4 +7,5 @@ pub mod Behind
 pub mod Views
 pub mod Keys
 pub mod Steps
+pub mod Laws
 pub mod WorkedScopes

@@ -1,5 +1,5 @@
 -- What is found: a name, a tag or a place means what its nearest declaration says.
-use Rattle.std.specs.Prelude.{ℕ, List, [], ◌∷◌, length, slice_get, Bool, true, false, ◌&&◌, not, Option, Some, None, is_some, nat_eq, if◌then◌else◌}
+use Rattle.std.specs.Prelude.{ℕ, List, [], ◌∷◌, slice_get, Bool, false, ◌&&◌, not, Option, Some, None, is_some, nat_eq, if◌then◌else◌}
 use Rattle.std.specs.Str.{bytes_eq}
 use Rattle.px_base.specs.declared.trace.Site.{Site}
 use Rattle.px_expressions.specs.Reading.{or_else}
@@ -12,7 +12,7 @@ use Rattle.px_real_values.specs.declared.known.Known.{Known}
 use Rattle.px_real_values.specs.declared.known.Known.TheVariants as K
 use Rattle.px_real_values.specs.declared.known.Member.{Member}
 use Rattle.px_real_values.specs.Types.{unknown}
-use Rattle.px_real_scopes.specs.Scopes.{MeaningTree, a_type, TagTree, a_record, an_enumeration, BindingTree, begins_block, of_name, of_tag, of_place, NamedTree, DefinitionTree, Scopes}
+use Rattle.px_real_scopes.specs.Scopes.{MeaningTree, a_type, TagTree, a_record, BindingTree, begins_block, of_name, of_tag, of_place, NamedTree, DefinitionTree, Scopes}
 
 -- what the first of these says that says something
 abbrev pub first_said : {A B : Type 0} → (A → Option B) → List A → Option B

@@ -1,5 +1,5 @@
 -- What is in scope (C11 6.2.1): names and tags, each with what its declaration makes of it.
-use Rattle.std.specs.Prelude.{ℕ, List, [], ◌∷◌, Bool, true, false, Option, Some, None}
+use Rattle.std.specs.Prelude.{ℕ, List, [], Bool, Option}
 use Rattle.px_base.specs.declared.trace.Site.{Site}
 use Rattle.px_real_types.specs.declared.shape.ProfileType.{ProfileType}
 use Rattle.px_real_values.specs.declared.known.Known.{Known}

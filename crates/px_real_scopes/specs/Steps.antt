@@ -1,28 +1,28 @@
 -- What the code comes to, step by step.
-use Rattle.std.specs.Prelude.{◌≡◌, ℕ, ◌-◌, List, ◌++◌, length, take, Bool, Option, Some, None, Result, Ok, Err}
+use Rattle.std.specs.Prelude.{◌≡◌, List, ◌++◌, length, take, Bool, true, false, Option, Some, None, Result, Ok, Err}
 use Rattle.px_real_declaring.specs.declared.reading.DeclarationFault.{DeclarationFault}
 use Rattle.px_real_declaring.specs.declared.reading.DeclarationFault.TheVariants as D
 use Rattle.px_real_scopes.specs.declared.declaring.Heights.{Heights}
 use Rattle.px_real_scopes.specs.Keys.{last_of}
 use Rattle.px_real_scopes.specs.Scopes.{BindingTree, NamedTree, DefinitionTree, Scopes}
 
--- what is in scope is this; a fault but for memory says that there is none
-abbrev pub Comes : Option Scopes → Scopes → Result Unit DeclarationFault → Type 0
+-- it comes to this; a fault but for memory says that it comes to nothing
+abbrev pub Comes : {S : Type 0} → Option S → S → Result Unit DeclarationFault → Type 0
 Comes o after (Ok u) = o ≡ Some after
 Comes o after (Err D.NoMemory) = Unit {0}
 Comes o after (Err (D.NotADeclaration at)) = o ≡ None
 Comes o after (Err (D.Deep at)) = o ≡ None
 
+-- whether memory ran out
+abbrev pub is_memory : DeclarationFault → Bool
+is_memory D.NoMemory = true
+is_memory (D.NotADeclaration at) = false
+is_memory (D.Deep at) = false
+
 -- the members of a struct or union so far, and whether they may be cells
 pub record MembersTree : Type 0 where
   pub cells : Bool
   pub members : List NamedTree
-
-abbrev pub ComesWith : Option (Scopes × List NamedTree) → Scopes → MembersTree → Result Unit DeclarationFault → Type 0
-ComesWith o after ms (Ok u) = o ≡ Some (after, ms.members)
-ComesWith o after ms (Err D.NoMemory) = Unit {0}
-ComesWith o after ms (Err (D.NotADeclaration at)) = o ≡ None
-ComesWith o after ms (Err (D.Deep at)) = o ≡ None
 
 -- what was there is there, behind what came
 pub record Grows (old new : Scopes) : Type 0 where
@@ -30,9 +30,6 @@ pub record Grows (old new : Scopes) : Type 0 where
   pub records : (more : List Bool) × (new.records ≡ old.records ++ more)
   pub definitions : (more : List DefinitionTree) × (new.definitions ≡ more ++ old.definitions)
   pub hidden : new.hidden ≡ old.hidden
-
-abbrev pub GrowBindings : List BindingTree → List BindingTree → Type 0
-GrowBindings old new = (more : List BindingTree) × (new ≡ more ++ old)
 
 -- how much is in scope, and what is left of it by that
 pub record AreHeights (h : Heights) (st : Scopes) : Type 0 where

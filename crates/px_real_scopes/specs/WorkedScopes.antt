@@ -1,9 +1,8 @@
 -- Declarations that were worked by hand: what is in scope behind them.
-use Rattle.std.specs.Prelude.{◌≡◌, ℕ, List, [], ◌∷◌, ◌++◌, Bool, true, false, Option, Some, None, codes}
-use Rattle.px_base.specs.declared.trace.Site.{Site}
+use Rattle.std.specs.Prelude.{◌≡◌, ℕ, List, [], ◌∷◌, Bool, true, false, Some, None, codes}
 use Rattle.px_real_expressions.specs.declared.terminal.Terminal.TheVariants as T
 use Rattle.px_real_expressions.specs.Lexemes.{Lexeme}
-use Rattle.px_real_declarations.specs.DeclarationTree.{SpecifierTree, keyword, type_name, tagged, DeclaratorTree, no_name, a_name, inner, pointer, array, function, DeclaredTree, DeclarationTree, declaration, HeadTree}
+use Rattle.px_real_declarations.specs.DeclarationTree.{SpecifierTree, keyword, type_name, tagged, DeclaratorTree, a_name, inner, pointer, array, function, DeclarationTree, declaration, HeadTree}
 use Rattle.px_real_declarations.specs.WorkedDeclarations.{column, sign, alone}
 use Rattle.px_real_types.specs.declared.shape.Base.TheVariants as B
 use Rattle.px_real_types.specs.declared.shape.Shape.TheVariants as S
@@ -12,7 +11,7 @@ use Rattle.px_real_values.specs.declared.known.Known.TheVariants as K
 use Rattle.px_real_values.specs.declared.known.Member.{Member}
 use Rattle.px_real_values.specs.declared.known.Member.TheVariants as N
 use Rattle.px_real_values.specs.Types.{int, struct, pointer_to, unknown, known}
-use Rattle.px_real_scopes.specs.Scopes.{FunctionTree, a_type, an_enumerator, an_object, a_function, a_local, a_record, an_enumeration, BindingTree, begins_block, of_name, of_tag, of_place, NamedTree, DefinitionTree, Scopes, nothing_in_scope}
+use Rattle.px_real_scopes.specs.Scopes.{FunctionTree, a_type, an_enumerator, an_object, a_function, a_record, an_enumeration, BindingTree, begins_block, of_name, of_tag, of_place, NamedTree, DefinitionTree, Scopes, nothing_in_scope}
 use Rattle.px_real_scopes.specs.Lookups.{entered, left}
 use Rattle.px_real_scopes.specs.Entering.{in_turn}
 use Rattle.px_real_scopes.specs.Behind.{behind, behind_head, behind_parameters, with_local}

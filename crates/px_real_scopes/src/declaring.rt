@@ -1,6 +1,5 @@
-ghost use Rattle.std.specs.Prelude.{◌≡◌, List, map, length, Some, IfOk, OnOk, OnErr};
-ghost use Rattle.px_real_declaring.specs.Trees.{specifier_tree, declarator_tree, declared_tree, declaration_tree};
-ghost use Rattle.px_real_declarations.specs.Names.{declared_name as name_declared};
+ghost use Rattle.std.specs.Prelude.{◌≡◌, map, IfOk, OnOk, OnErr};
+ghost use Rattle.px_real_declaring.specs.Trees.{declared_tree, declaration_tree};
 ghost use Rattle.px_real_members.specs.Trees.{head_tree};
 ghost use Rattle.px_real_types.specs.Scopes.{texts};
 ghost use Rattle.px_real_scopes.specs.Behind as Rules;
@@ -105,7 +104,7 @@ fn add_declared(
     declared: &Declared,
 ) -> Result<(), NoMemory>
     ensures added { OnOk result (scopes.new ≡ Rules.with_one is_type known word.now scopes.old (declared_tree (texts on.entry) declared.now)) }
-    ensures grows { Grows scopes.old scopes.new }
+    ensures refused { OnErr result (scopes.new ≡ scopes.old) }
 {
     match declared_name(&declared.declarator) {
         Some(name) => {
@@ -155,17 +154,20 @@ fn bring(
     with_specifiers(alloc, scopes, on, declared.is_empty(), specifiers)?;
     let known = scopes.specified_known(on, specifiers);
     let word = type_word(alloc, specifiers)?;
-    add_all(alloc, scopes, on, is_typedef(specifiers), known, &word, declared)?;
+    add_all(
+        alloc,
+        scopes,
+        on,
+        is_typedef(specifiers),
+        known,
+        &word,
+        declared,
+    )?;
     Ok(())
 }
 
 // What the name of a function means that is defined.
-fn head_meaning(
-    alloc: Global,
-    scopes: &Scopes,
-    on: Texts,
-    head: &Head,
-) -> Result<Meaning, NoMemory>
+fn head_meaning(alloc: Global, scopes: &Scopes, on: Texts, head: &Head) -> Result<Meaning, NoMemory>
     ensures { IfOk result (λ m. meaning_view m ≡ Rules.head_meaning scopes.now (head_tree (texts on.entry) head.now)) }
 {
     let word = type_word(alloc, &head.specifiers)?;
@@ -182,6 +184,20 @@ fn head_meaning(
     }
 }
 
+// A function that is defined comes into scope, if it has a name.
+fn add_head(alloc: Global, scopes: &mut Scopes, on: Texts, head: &Head) -> Result<(), NoMemory>
+    ensures added { OnOk result (scopes.new ≡ Rules.with_head scopes.old (head_tree (texts on.entry) head.now)) }
+    ensures refused { OnErr result (scopes.new ≡ scopes.old) }
+{
+    match declared_name(&head.declarator) {
+        Some(name) => {
+            let meaning = head_meaning(alloc, scopes, on, head)?;
+            scopes.add_name(alloc, name.as_slice(), meaning)
+        }
+        None => Ok(()),
+    }
+}
+
 // What a function's head brings into scope.
 fn bring_head(
     alloc: Global,
@@ -193,10 +209,7 @@ fn bring_head(
     ensures grows { Grows scopes.old scopes.new }
 {
     with_specifiers(alloc, scopes, on, false, &head.specifiers)?;
-    if let Some(name) = declared_name(&head.declarator) {
-        let meaning = head_meaning(alloc, scopes, on, head)?;
-        scopes.add_name(alloc, name.as_slice(), meaning)?;
-    }
+    add_head(alloc, scopes, on, head)?;
     Ok(())
 }
 
@@ -210,7 +223,7 @@ fn add_parameter(
     declared: &Declared,
 ) -> Result<(), NoMemory>
     ensures added { OnOk result (scopes.new ≡ Rules.with_parameter known word.now scopes.old (declared_tree (texts on.entry) declared.now)) }
-    ensures grows { Grows scopes.old scopes.new }
+    ensures refused { OnErr result (scopes.new ≡ scopes.old) }
 {
     match declared_name(&declared.declarator) {
         Some(name) => {

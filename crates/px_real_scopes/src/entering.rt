@@ -1,14 +1,14 @@
-ghost use Rattle.std.specs.Prelude.{◌≡◌, ◌∷◌, ◌++◌, [], List, map, length, option_map, false, Some, IfOk, OnOk};
+ghost use Rattle.std.specs.Prelude.{◌≡◌, ◌∷◌, ◌++◌, [], List, map, length, option_map, false, IfOk, OnOk, OnErr};
 ghost use Rattle.px_real_symbols.specs.Symbols.{held_in};
 ghost use Rattle.px_real_declaring.specs.Trees.{specifier_tree, declaration_tree};
 ghost use Rattle.px_real_types.specs.Scopes.{texts};
 ghost use Rattle.px_real_scopes.specs.Entering as Rules;
 ghost use Rattle.px_real_scopes.specs.Views.{binding_view};
-ghost use Rattle.px_real_scopes.specs.Steps.{Comes, ComesWith, Grows};
+ghost use Rattle.px_real_scopes.specs.Steps.{Comes, Grows};
 
 use crate::enumerators::with_enumeration;
-use crate::members::MemberList;
 use crate::meaning::{Binding, Definition, Tag};
+use crate::members::MemberList;
 use crate::scopes::{Scopes, record_in};
 use px_base::Site;
 use px_real_declarations::Role;
@@ -46,20 +46,27 @@ fn if_open(scopes: &Scopes, number: Option<u32>) -> Option<u32>
     }
 }
 
+// The number of the struct or union with this tag that is meant, if it is declared.
+fn tagged_number(scopes: &Scopes, alone: bool, defines: bool, tag: &[u8]) -> Option<u32>
+    ensures { result ≡ Rules.tagged_number scopes.now alone defines tag.now }
+{
+    if defines {
+        return if_open(scopes, record_in(scopes.bindings.own_tag(tag)));
+    }
+    if alone {
+        return record_in(scopes.bindings.own_tag(tag));
+    }
+    record_in(scopes.bindings.tag(tag))
+}
+
 // The number of the struct or union that is meant, if it is declared.
 fn declared_number(scopes: &Scopes, naming: Naming) -> Option<u32>
     ensures { result ≡ Rules.declared_number scopes.now naming.entry.alone naming.entry.defines naming.entry.tag.now }
 {
-    let Some(tag) = naming.tag else {
-        return None;
-    };
-    if naming.defines {
-        return if_open(scopes, record_in(scopes.bindings.own_tag(tag.as_slice())));
+    match naming.tag {
+        Some(tag) => tagged_number(scopes, naming.alone, naming.defines, tag.as_slice()),
+        None => None,
     }
-    if naming.alone {
-        return record_in(scopes.bindings.own_tag(tag.as_slice()));
-    }
-    record_in(scopes.bindings.tag(tag.as_slice()))
 }
 
 // What says in scope which one has this number.
@@ -88,8 +95,8 @@ fn new_record(alloc: Global, scopes: &mut Scopes, naming: Naming) -> Result<u32,
         return Err(NoMemory);
     };
     let binding = record_binding(alloc, naming, number)?;
-    scopes.records.push(naming.is_struct)?;
-    scopes.bindings.push(binding)?;
+    scopes.add_record(naming.is_struct)?;
+    scopes.add_binding(binding)?;
     Ok(number)
 }
 
@@ -105,21 +112,36 @@ fn meant_record(alloc: Global, scopes: &mut Scopes, naming: Naming) -> Result<u3
 }
 
 // The struct or union with this number is defined.
-fn add_definition(
-    scopes: &mut Scopes,
-    number: u32,
-    members: MemberList,
-) -> Result<(), NoMemory>
+fn add_definition(scopes: &mut Scopes, number: u32, members: MemberList) -> Result<(), NoMemory>
     ensures added { OnOk result (scopes.new ≡ Rules.with_definition number (scopes.old, members.members)) }
-    ensures grows { Grows scopes.old scopes.new }
+    ensures refused { OnErr result (scopes.new ≡ scopes.old) }
 {
-    scopes.definitions.push(Definition {
+    scopes.add_definition(Definition {
         number,
         members: members.into_members(),
     })
 }
 
-// What stands between the braces of the struct or union with this number, where others may stand within it so deep.
+// The struct or union with this number with these members, where others may stand within it so deep.
+#[cycle(enter_specifier)]
+fn define_by(
+    alloc: Global,
+    scopes: &mut Scopes,
+    on: Texts,
+    depth: u32,
+    number: u32,
+    lines: &[Declaration],
+) -> Result<(), DeclarationFault>
+    ensures comes { Comes (Rules.defined_by (Rules.with_specifier (Rules.deeper_by depth) false) number scopes.old (map (declaration_tree (texts on.entry)) lines.now)) scopes.new result }
+    ensures grows { Grows scopes.old scopes.new }
+{
+    let mut members = MemberList::new(alloc, scopes.is_seen(number));
+    enter_lines(alloc, scopes, on, depth, &mut members, lines)?;
+    add_definition(scopes, number, members)?;
+    Ok(())
+}
+
+// With what stands between its braces.
 #[cycle(enter_specifier)]
 fn define(
     alloc: Global,
@@ -134,11 +156,10 @@ fn define(
     if depth == 0 {
         return Err(DeclarationFault::Deep(0));
     }
-    let lines = members_of(alloc, on.source, on.tokens, &scopes.bindings)?;
-    let mut members = MemberList::new(alloc, scopes.is_seen(number));
-    enter_lines(alloc, scopes, on, depth - 1, &mut members, &lines)?;
-    add_definition(scopes, number, members)?;
-    Ok(())
+    match members_of(alloc, on.source, on.tokens, &scopes.bindings) {
+        Ok(lines) => define_by(alloc, scopes, on, depth - 1, number, &lines),
+        Err(fault) => Err(fault),
+    }
 }
 
 // The struct or union that is named so, and what it holds, if that follows.
@@ -233,7 +254,7 @@ fn enter_line(
     members: &mut MemberList,
     line: &Declaration,
 ) -> Result<(), DeclarationFault>
-    ensures comes { ComesWith (Rules.with_line (Rules.with_specifier (Rules.deeper_by depth) false) members.old.cells (scopes.old, members.old.members) (declaration_tree (texts on.entry) line.now)) scopes.new members.new result }
+    ensures comes { Comes (Rules.with_line (Rules.with_specifier (Rules.deeper_by depth) false) members.old.cells (scopes.old, members.old.members) (declaration_tree (texts on.entry) line.now)) (scopes.new, members.new.members) result }
     ensures grows { Grows scopes.old scopes.new }
     ensures same { OnOk result (members.new.cells ≡ members.old.cells) }
 {
@@ -259,7 +280,7 @@ fn enter_lines(
     members: &mut MemberList,
     lines: &[Declaration],
 ) -> Result<(), DeclarationFault>
-    ensures comes { ComesWith (Rules.in_turn (Rules.with_line (Rules.with_specifier (Rules.deeper_by depth) false) members.old.cells) (scopes.old, members.old.members) (map (declaration_tree (texts on.entry)) lines.now)) scopes.new members.new result }
+    ensures comes { Comes (Rules.in_turn (Rules.with_line (Rules.with_specifier (Rules.deeper_by depth) false) members.old.cells) (scopes.old, members.old.members) (map (declaration_tree (texts on.entry)) lines.now)) (scopes.new, members.new.members) result }
     ensures grows { Grows scopes.old scopes.new }
 {
     for line in lines {

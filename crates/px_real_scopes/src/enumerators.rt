@@ -1,19 +1,19 @@
-ghost use Rattle.std.specs.Prelude.{◌≡◌, ◌∷◌, ◌++◌, List, map, option_map, OnOk, IfOk, Some};
+ghost use Rattle.std.specs.Prelude.{◌≡◌, ◌∷◌, map, option_map, OnOk, OnErr, Some};
 ghost use Rattle.px_real_symbols.specs.Symbols.{held_in};
+ghost use Rattle.px_real_symbols.specs.Words.{value_of};
 ghost use Rattle.px_real_members.specs.Trees.{enumerator_tree};
 ghost use Rattle.px_real_types.specs.Scopes.{texts};
 ghost use Rattle.px_real_scopes.specs.Scopes.{an_enumeration};
 ghost use Rattle.px_real_scopes.specs.Entering as Rules;
-ghost use Rattle.px_real_scopes.specs.Steps.{Comes, Grows, GrowBindings};
+ghost use Rattle.px_real_scopes.specs.Steps.{Comes, Grows};
 
-use crate::bindings::Bindings;
 use crate::meaning::{Binding, Meaning, Tag};
 use crate::scopes::Scopes;
 use px_real_declaring::DeclarationFault;
 use px_real_members::{Enumerator, enumerators_of};
 use px_real_names::enumerated::within;
 use px_real_symbols::Span;
-use px_real_tokens::{Token, TokenKind};
+use px_real_tokens::TokenKind;
 use px_real_types::Texts;
 use px_syntax::Name;
 use px_terms::NoMemory;
@@ -65,15 +65,15 @@ fn counted_on(value: Option<u32>) -> Option<u32>
 // An enumerator.
 fn add_enumerator(
     alloc: Global,
-    bindings: &mut Bindings,
+    scopes: &mut Scopes,
     name: &[u8],
     value: Option<u32>,
 ) -> Result<(), NoMemory>
-    ensures added { OnOk result (bindings.new ≡ Rules.enumerator_binding name.now value ∷ bindings.old) }
-    ensures grows { GrowBindings bindings.old bindings.new }
+    ensures added { OnOk result (scopes.new ≡ record scopes.old { bindings = Rules.enumerator_binding name.now value ∷ scopes.old.bindings }) }
+    ensures refused { OnErr result (scopes.new ≡ scopes.old) }
 {
     let name = Name::from_slice(alloc, name)?;
-    bindings.push(Binding::Name {
+    scopes.add_binding(Binding::Name {
         name,
         meaning: Meaning::Enumerator(value),
     })
@@ -82,34 +82,49 @@ fn add_enumerator(
 // These enumerators, in order.
 fn add_enumerators(
     alloc: Global,
-    bindings: &mut Bindings,
+    scopes: &mut Scopes,
     on: Texts,
     enumerators: &[Enumerator],
 ) -> Result<(), NoMemory>
-    ensures added { OnOk result (bindings.new ≡ Rules.with_enumerators (Some 0) (map (enumerator_tree (texts on.entry)) enumerators.now) bindings.old) }
-    ensures grows { GrowBindings bindings.old bindings.new }
+    ensures added { OnOk result (scopes.new ≡ record scopes.old { bindings = Rules.with_enumerators (Some 0) (map (enumerator_tree (texts on.entry)) enumerators.now) scopes.old.bindings }) }
+    ensures grows { Grows scopes.old scopes.new }
 {
     let mut next = Some(0);
     for enumerator in enumerators {
         let value = enumerator_value(on, next, enumerator.value);
-        add_enumerator(alloc, bindings, enumerator.name.as_slice(), value)?;
+        add_enumerator(alloc, scopes, enumerator.name.as_slice(), value)?;
         next = counted_on(value);
     }
     Ok(())
 }
 
 // The tag of an enumeration, if it has one.
-fn add_tag(alloc: Global, bindings: &mut Bindings, tag: &Option<Name>) -> Result<(), NoMemory>
-    ensures added { OnOk result (bindings.new ≡ Rules.with_tag tag.now an_enumeration bindings.old) }
-    ensures grows { GrowBindings bindings.old bindings.new }
+fn add_tag(alloc: Global, scopes: &mut Scopes, tag: &Option<Name>) -> Result<(), NoMemory>
+    ensures added { OnOk result (scopes.new ≡ record scopes.old { bindings = Rules.with_tag tag.now an_enumeration scopes.old.bindings }) }
+    ensures refused { OnErr result (scopes.new ≡ scopes.old) }
 {
     match tag {
-        Some(tag) => bindings.push(Binding::Tag {
+        Some(tag) => scopes.add_binding(Binding::Tag {
             name: Name::from_slice(alloc, tag.as_slice())?,
             tag: Tag::Enumeration,
         }),
         None => Ok(()),
     }
+}
+
+// An enumeration with these enumerators.
+fn add_enumeration(
+    alloc: Global,
+    scopes: &mut Scopes,
+    on: Texts,
+    tag: &Option<Name>,
+    enumerators: &[Enumerator],
+) -> Result<(), NoMemory>
+    ensures added { OnOk result (scopes.new ≡ Rules.with_enumerated tag.now (map (enumerator_tree (texts on.entry)) enumerators.now) scopes.old) }
+    ensures grows { Grows scopes.old scopes.new }
+{
+    add_tag(alloc, scopes, tag)?;
+    add_enumerators(alloc, scopes, on, enumerators)
 }
 
 // An enumeration with these tokens between its braces.
@@ -122,10 +137,13 @@ fn define_enumeration(
     ensures comes { Comes (Rules.with_enumeration tag.now (Some (texts on.entry)) scopes.old) scopes.new result }
     ensures grows { Grows scopes.old scopes.new }
 {
-    let enumerators = enumerators_of(alloc, on.source, on.tokens)?;
-    add_tag(alloc, &mut scopes.bindings, tag)?;
-    add_enumerators(alloc, &mut scopes.bindings, on, &enumerators)?;
-    Ok(())
+    match enumerators_of(alloc, on.source, on.tokens) {
+        Ok(enumerators) => {
+            add_enumeration(alloc, scopes, on, tag, &enumerators)?;
+            Ok(())
+        }
+        Err(fault) => Err(fault),
+    }
 }
 
 /// An enumeration, where what it holds follows.

@@ -6,6 +6,7 @@ ghost use Rattle.px_real_members.specs.Trees.{parameters_tree, head_tree};
 ghost use Rattle.px_real_types.specs.Scopes.{texts};
 ghost use Rattle.px_real_types.specs.Declarators.{signature_tree};
 ghost use Rattle.px_real_scopes.specs.Functions as Rules;
+ghost use Rattle.px_real_scopes.specs.Steps.{is_memory};
 ghost use Rattle.px_real_scopes.specs.Views.{function_view};
 
 use crate::known::is_nothing;
@@ -14,7 +15,10 @@ use crate::scopes::Scopes;
 use px_real_declaring::{Declaration, DeclarationFault, Declared, Specifier};
 use px_real_members::{Head, Parameters, parameters_of};
 use px_real_names::enumerated::within;
-use px_real_types::{Base, ProfileType, Shape, Signature, Texts, declared_name, declared_shape, parameter_of, specified};
+use px_real_types::{
+    Base, ProfileType, Shape, Signature, Texts, declared_name, declared_shape, parameter_of,
+    specified,
+};
 use px_syntax::Name;
 use px_terms::NoMemory;
 use std::alloc::Global;
@@ -84,18 +88,29 @@ fn parameter_types(
     all_types(alloc, scopes, on, parameters)
 }
 
+// Whether a fault is that memory ran out.
+fn is_memory(fault: DeclarationFault) -> bool
+    ensures { result ≡ is_memory fault }
+{
+    match fault {
+        DeclarationFault::NoMemory => true,
+        DeclarationFault::NotADeclaration(_) | DeclarationFault::Deep(_) => false,
+    }
+}
+
 // What stands between the parentheses of a function, where it is read.
-fn parameters_in(
-    alloc: Global,
-    scopes: &Scopes,
-    on: Texts,
-) -> Result<Option<Parameters>, NoMemory>
+fn parameters_in(alloc: Global, scopes: &Scopes, on: Texts) -> Result<Option<Parameters>, NoMemory>
     ensures { IfOk result (λ o. option_map (parameters_tree (texts on.entry)) o ≡ Rules.parameters_in scopes.now (texts on.entry)) }
 {
     match parameters_of(alloc, on.source, on.tokens, scopes) {
         Ok(parameters) => Ok(Some(parameters)),
-        Err(DeclarationFault::NoMemory) => Err(NoMemory),
-        Err(_) => Ok(None),
+        Err(fault) => {
+            if is_memory(fault) {
+                Err(NoMemory)
+            } else {
+                Ok(None)
+            }
+        }
     }
 }
 
@@ -120,10 +135,12 @@ fn declared_by(
 ) -> Result<Function, NoMemory>
     ensures { IfOk result (λ f. function_view f ≡ Rules.declared_by scopes.now gives (option_map (parameters_tree (texts on.entry)) parameters.now)) }
 {
-    let Some(Parameters::Declared {
-        parameters,
-        variadic,
-    }) = parameters
+    let Some(
+        Parameters::Declared {
+            parameters,
+            variadic,
+        },
+    ) = parameters
     else {
         return Ok(open_function(alloc, gives));
     };
@@ -145,7 +162,13 @@ pub fn declared_function(
 {
     let inside = within(on, signature.parameters);
     let parameters = parameters_in(alloc, scopes, inside)?;
-    declared_by(alloc, scopes, inside, signature.gives.in_profile(), &parameters)
+    declared_by(
+        alloc,
+        scopes,
+        inside,
+        signature.gives.in_profile(),
+        &parameters,
+    )
 }
 
 // An int.
@@ -158,7 +181,28 @@ fn int() -> Option<ProfileType>
     })
 }
 
-// The type of this parameter of an old-style definition, if it is the one that is declared here.
+// The type of this parameter of an old-style definition, if the one with this name is it.
+fn says_named(
+    on: Texts,
+    word: &[u8],
+    name: &[u8],
+    shape: Shape,
+    declared: &Declared,
+) -> Option<Option<ProfileType>>
+    ensures { result ≡ Rules.says_named word.now shape (declared_tree (texts on.entry) declared.now) name.now }
+{
+    if word == name {
+        Some(
+            declared_shape(declared, on, shape)
+                .as_parameter()
+                .in_profile(),
+        )
+    } else {
+        None
+    }
+}
+
+// The same by what is declared here.
 fn says_parameter(
     on: Texts,
     word: &[u8],
@@ -167,11 +211,10 @@ fn says_parameter(
 ) -> Option<Option<ProfileType>>
     ensures { result ≡ Rules.says_parameter word.now shape (declared_tree (texts on.entry) declared.now) }
 {
-    let name = declared_name(&declared.declarator)?;
-    if word != name.as_slice() {
-        return None;
+    match declared_name(&declared.declarator) {
+        Some(name) => says_named(on, word, name.as_slice(), shape, declared),
+        None => None,
     }
-    Some(declared_shape(declared, on, shape).as_parameter().in_profile())
 }
 
 // The same among all that a declaration declares.
@@ -184,9 +227,8 @@ fn says_among(
     ensures { result ≡ Rules.says_among word.now shape (map (declared_tree (texts on.entry)) declared.now) }
 {
     for each in declared {
-        let said = says_parameter(on, word, shape, each);
-        if said.is_some() {
-            return said;
+        if let Some(said) = says_parameter(on, word, shape, each) {
+            return Some(said);
         }
     }
     None

@@ -1,4 +1,4 @@
-ghost use Rattle.std.specs.Prelude.{◌≡◌, List, is_some};
+ghost use Rattle.std.specs.Prelude.{◌≡◌, ◌&&◌, List, is_some};
 ghost use Rattle.px_real_expressions.specs.Lexemes.{Lexeme};
 ghost use Rattle.px_real_declaring.specs.Trees.{declarator_tree, declared_tree};
 ghost use Rattle.px_real_types.specs.Declarators.{bare_name};
@@ -6,7 +6,7 @@ ghost use Rattle.px_real_types.specs.Scopes.{texts};
 ghost use Rattle.px_real_values.specs.Types.{unknown};
 ghost use Rattle.px_real_values.specs.Spelled.{is_nothing};
 ghost use Rattle.px_real_scopes.specs.Lookups.{seen};
-ghost use Rattle.px_real_scopes.specs.Knowing.{beyond, with_shape, is_array_of, beyond_declarator, declared_known, parameter_known};
+ghost use Rattle.px_real_scopes.specs.Knowing.{beyond, begins_array, beyond_by, with_shape, is_array_of, beyond_declarator, declared_known, parameter_known};
 
 use px_real_declaring::{Declarator, Declared, Suffix};
 use px_real_types::{Base, Shape, Texts, declared_shape};
@@ -36,10 +36,12 @@ fn beyond(known: Known) -> Known
     match known {
         Known::Array | Known::Seen(Shape::Array { .. }) => Known::Array,
         Known::Record(number) => Known::Record(number),
-        Known::Seen(Shape::Value {
-            base: Base::Struct(number),
-            stars: 0,
-        }) => Known::Record(number),
+        Known::Seen(
+            Shape::Value {
+                base: Base::Struct(number),
+                stars: 0,
+            },
+        ) => Known::Record(number),
         _ => unknown(),
     }
 }
@@ -63,7 +65,7 @@ pub fn is_nothing(declarator: &Declarator) -> bool
     match declarator {
         Declarator::NoName => true,
         Declarator::Suffixed { core, suffixes } => suffixes.is_empty() && is_nothing(core),
-        _ => false,
+        Declarator::Name { .. } | Declarator::Inner { .. } | Declarator::Pointer { .. } => false,
     }
 }
 
@@ -82,11 +84,20 @@ fn is_bare(declarator: &Declarator) -> bool
 }
 
 // Whether the first that stands behind a declarator is a pair of brackets.
-fn begins_array(suffixes: &[Suffix]) -> bool {
+fn begins_array(suffixes: &[Suffix]) -> bool
+    ensures { result ≡ begins_array suffixes.now }
+{
     match suffixes.first() {
         Some(Suffix::Array { .. }) => true,
         _ => false,
     }
+}
+
+// Whether brackets stand directly behind a name, of which it is said whether it stands alone before these.
+fn array_behind(bare: bool, suffixes: &[Suffix]) -> bool
+    ensures { result ≡ (begins_array suffixes.now && bare) }
+{
+    begins_array(suffixes) && bare
 }
 
 // Whether brackets stand directly behind the name.
@@ -100,8 +111,21 @@ fn is_array_of(declarator: &Declarator) -> bool
         Declarator::Inner { inner, .. } => is_array_of(inner),
         Declarator::Pointer { target, .. } => is_array_of(target),
         Declarator::Suffixed { core, suffixes } => {
-            (begins_array(suffixes) && is_bare(core)) || is_array_of(core)
+            array_behind(is_bare(core), suffixes) | is_array_of(core)
         }
+    }
+}
+
+// What is known beyond the shape of a name alone, of an array or of something else.
+fn beyond_by(bare: bool, array: bool, known: Known) -> Known
+    ensures { result ≡ beyond_by bare array known }
+{
+    if bare {
+        known
+    } else if array {
+        Known::Array
+    } else {
+        unknown()
     }
 }
 
@@ -109,13 +133,7 @@ fn is_array_of(declarator: &Declarator) -> bool
 fn beyond_declarator(declarator: &Declarator, known: Known) -> Known
     ensures { (all : List Lexeme) → result ≡ beyond_declarator (declarator_tree all declarator.now) known }
 {
-    if is_bare(declarator) {
-        known
-    } else if is_array_of(declarator) {
-        Known::Array
-    } else {
-        unknown()
-    }
+    beyond_by(is_bare(declarator), is_array_of(declarator), known)
 }
 
 /// What is known of the type of what is declared, where its specifiers say this.

@@ -15,6 +15,6 @@ mod meaning;
 mod members;
 mod scopes;
 
-pub use laws::worked_scopes;
+pub use laws::{blocks_are_left, cells_agree, cells_are_numbered, worked_scopes};
 pub use meaning::{Function, Meaning, NamedMember, Tag};
 pub use scopes::Scopes;

@@ -1,9 +1,9 @@
-ghost use Rattle.std.specs.Prelude.{◌≡◌, ◌∷◌, ◌++◌, [], map, not, ◌&&◌, is_some, List, OnOk, IfOk};
+ghost use Rattle.std.specs.Prelude.{◌≡◌, ◌∷◌, ◌++◌, [], map, not, ◌&&◌, option_map, List, OnOk, IfOk};
 ghost use Rattle.px_real_expressions.specs.Lexemes.{Lexeme};
 ghost use Rattle.px_real_declaring.specs.Trees.{specifier_tree, declared_tree};
 ghost use Rattle.px_real_types.specs.Scopes.{texts};
+ghost use Rattle.px_real_values.specs.Types.{known};
 ghost use Rattle.px_real_scopes.specs.Entering as Rules;
-ghost use Rattle.px_real_scopes.specs.Knowing.{type_specifier};
 ghost use Rattle.px_real_scopes.specs.Views.{member_view};
 
 use crate::known::{declared_known, seen};
@@ -40,18 +40,20 @@ impl Model for MemberList {
     ghost invariant = { λ m. m.next ≡ cells_among (map member_view m.items.items) };
 }
 
-// Whether it is a cell.
-fn is_cell(member: Member) -> bool
-    ensures { result ≡ Rules.is_cell member }
+// How many cells there are with this member.
+fn counted(cells: u32, member: Member) -> Result<u32, NoMemory>
+    ensures { IfOk result (λ n. n ≡ Rules.counted cells member) }
 {
     match member {
-        Member::Cell { .. } => true,
-        Member::Other(_) => false,
+        Member::Cell { .. } => cells.checked_add(1).ok_or(NoMemory),
+        Member::Other(_) => Ok(cells),
     }
 }
 
 // A type of the profile, as what is known.
-fn known(kind: ProfileType) -> Known {
+fn known_kind(kind: ProfileType) -> Known
+    ensures { result ≡ known kind }
+{
     Known::Seen(Shape::Value {
         base: kind.base,
         stars: kind.stars,
@@ -63,21 +65,32 @@ fn no_cell(member: Member) -> Member
     ensures { result ≡ Rules.no_cell member }
 {
     match member {
-        Member::Cell { kind, .. } => Member::Other(known(kind)),
+        Member::Cell { kind, .. } => Member::Other(known_kind(kind)),
         Member::Other(known) => Member::Other(known),
     }
 }
 
 // The number of a struct or union without a tag.
-fn nameless_number(scopes: &Scopes, specifier: Option<&Specifier>) -> Option<u32> {
+fn nameless_number(scopes: &Scopes, specifier: &Specifier) -> Option<u32>
+    ensures { (all : List Lexeme) → result ≡ Rules.nameless_number scopes.now.bindings (specifier_tree all specifier.now) }
+{
     match specifier {
-        Some(Specifier::Tagged {
+        Specifier::Tagged {
             tag: None,
             site,
             ..
-        }) => scopes.bindings.place(*site),
+        } => scopes.bindings.place(*site),
         _ => None,
     }
+}
+
+// The members of the struct or union that specifiers say, if it has no tag.
+fn nameless_members<'a>(scopes: &'a Scopes, specifiers: &[Specifier]) -> Option<&'a [NamedMember]>
+    ensures { (all : List Lexeme) → option_map (λ ms. map member_view ms.now) result ≡ Rules.members_without_a_name scopes.entry.now (map (specifier_tree all) specifiers.now) }
+{
+    let specifier = type_specifier(specifiers)?;
+    let number = nameless_number(scopes, specifier)?;
+    scopes.members(number)
 }
 
 impl MemberList {
@@ -104,11 +117,7 @@ impl MemberList {
     fn push(&mut self, alloc: Global, name: &[u8], member: Member) -> Result<(), NoMemory>
         ensures { OnOk result (self.new ≡ record self.old { members = self.old.members ++ record { name = name.now; member = member } ∷ [] }) }
     {
-        let next = if is_cell(member) {
-            self.next.checked_add(1).ok_or(NoMemory)?
-        } else {
-            self.next
-        };
+        let next = counted(self.next, member)?;
         let name = Name::from_slice(alloc, name)?;
         self.items.push(NamedMember { name, member })?;
         self.next = next;
@@ -186,10 +195,7 @@ impl MemberList {
     ) -> Result<(), NoMemory>
         ensures { OnOk result ((all : List Lexeme) → self.new ≡ record self.old { members = self.old.members ++ Rules.nameless_members scopes.now (map (specifier_tree all) specifiers.now) }) }
     {
-        let Some(number) = nameless_number(scopes, type_specifier(specifiers)) else {
-            return Ok(());
-        };
-        match scopes.members(number) {
+        match nameless_members(scopes, specifiers) {
             Some(members) => self.add_inherited(alloc, members),
             None => Ok(()),
         }

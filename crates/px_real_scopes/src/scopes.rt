@@ -8,12 +8,12 @@ ghost use Rattle.px_real_scopes.specs.Scopes.{nothing_in_scope};
 ghost use Rattle.px_real_scopes.specs.Lookups.{flag_at, is_seen, record_known, shape_of, members_of, is_defined, member_of, meaning_of, tag_of, type_in, number_in, number_of, known_type, entered, left};
 ghost use Rattle.px_real_scopes.specs.Knowing.{type_specifier, type_word, specifier_word, specifier_known, said_known, specified_known};
 ghost use Rattle.px_real_scopes.specs.Behind.{with_name};
-ghost use Rattle.px_real_scopes.specs.Views.{meaning_view, tag_view, member_view};
+ghost use Rattle.px_real_scopes.specs.Views.{meaning_view, tag_view, member_view, binding_view, definition_view};
 
 use crate::bindings::Bindings;
 use crate::definitions::{Definitions, member_named};
 use crate::known::{seen, unknown, with_shape};
-use crate::meaning::{Binding, Meaning, NamedMember, Tag};
+use crate::meaning::{Binding, Definition, Meaning, NamedMember, Tag};
 use px_base::Site;
 use px_real_declarations::Role;
 use px_real_declaring::{Specifier, role_of};
@@ -315,12 +315,37 @@ impl Scopes {
         self.bindings.leave();
     }
 
-    // A name means this. After an `Err` what is in scope is as it was.
-    pub(crate) fn add_name(&mut self, alloc: Global, name: &[u8], meaning: Meaning) -> Result<(), NoMemory>
+    // One binding more.
+    pub fn add_binding(&mut self, binding: Binding) -> Result<(), NoMemory>
+        ensures added { OnOk result (self.new ≡ record self.old { bindings = binding_view binding ∷ self.old.bindings }) }
+        ensures refused { OnErr result (self.new ≡ self.old) }
+    {
+        self.bindings.push(binding)
+    }
+
+    // One struct or union more.
+    pub fn add_record(&mut self, is_struct: bool) -> Result<(), NoMemory>
+        ensures added { OnOk result (self.new ≡ record self.old { records = self.old.records ++ is_struct ∷ [] }) }
+        ensures refused { OnErr result (self.new ≡ self.old) }
+    {
+        self.records.push(is_struct)?;
+        Ok(())
+    }
+
+    // One definition more.
+    pub fn add_definition(&mut self, definition: Definition) -> Result<(), NoMemory>
+        ensures added { OnOk result (self.new ≡ record self.old { definitions = definition_view definition ∷ self.old.definitions }) }
+        ensures refused { OnErr result (self.new ≡ self.old) }
+    {
+        self.definitions.push(definition)
+    }
+
+    // A name means this.
+    pub fn add_name(&mut self, alloc: Global, name: &[u8], meaning: Meaning) -> Result<(), NoMemory>
         ensures added { OnOk result (self.new ≡ with_name (Some name.now) (meaning_view meaning) self.old) }
         ensures refused { OnErr result (self.new ≡ self.old) }
     {
         let name = Name::from_slice(alloc, name)?;
-        self.bindings.push(Binding::Name { name, meaning })
+        self.add_binding(Binding::Name { name, meaning })
     }
 }
