@@ -110,7 +110,7 @@ stuck_last p q r bytes rest after parts others (goes {q = s} {after = behind} {m
     let e = stuck_last s q r behind rest after more more' next stuck (moved s s' r behind behind' after more' o.1 o.2 next') in
     (e.0, is ∙ ap (λ l. those x ++ l) e.1 ∙ ap (λ z. those z ++ (more' ++ e.0)) o.0 ∙ sym (append_assoc (those y) more' e.0) ∙ ap (λ l. l ++ e.0) (sym is'))
 
-longer : (parts left : List Part) (x : Part) → parts ≡ (parts ++ x ∷ []) ++ left → ⊥
+pub longer : (parts left : List Part) (x : Part) → parts ≡ (parts ++ x ∷ []) ++ left → ⊥
 longer parts left x is =
     let all : length parts ≡ length (parts ++ x ∷ []) + length left = ap length is ∙ length-append (parts ++ x ∷ []) left in
     let one : length (parts ++ x ∷ []) ≡ length parts + 1 = length-append parts (x ∷ []) in omega arith
