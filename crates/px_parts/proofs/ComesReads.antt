@@ -1,12 +1,11 @@
 -- What comes at a place is read there, whatever follows it.
-use Rattle.std.proofs.Common.{◌≡◌, ℕ, ◌≤◌, List, [], ◌∷◌, ◌++◌, true, sym, subst}
+use Rattle.std.proofs.Common.{◌≡◌, ℕ, ◌≤◌, ◌∷◌, ◌++◌, true, sym, subst}
 use Rattle.std.specs.Prelude.{nat_le}
 use Rattle.std.proofs.lemmas.Bool.{le-leb}
 use Rattle.px_entry.specs.declared.entries.Entry.{Entry}
 use Rattle.px_entry.specs.declared.tables.Gap.{Gap}
 use Rattle.px_spelling.specs.Numbers.{u8_bytes, IsU8, u8_at, u32_bytes, IsU32, u32_at, u64_bytes}
 use Rattle.px_spelling.specs.Lists.{list_bytes, list_at, any_number}
-use Rattle.px_spelling.specs.Reading.{done, ◌<*>◌}
 use Rattle.px_spelling.specs.Entries.{entry_bytes, IsEntry, entry_at}
 use Rattle.px_spelling.specs.Tables.{gap_bytes, IsGap, gap_at}
 use Rattle.px_wire.specs.TableRanges.{entry_within, gap_within}

@@ -130,8 +130,8 @@ passes_all f (suc n) dues bytes alone enough =
     let others : Passes (due f n ∷ dues) after dues (drop (size f * n) after) = passes_all f n dues after alone (omega (arith, each, many, enough)) in
     let behind : drop (size f * n) after ≡ drop (size f * suc n) bytes = drop-drop (size f * n) (size f) bytes ∙ ap (λ k. drop k bytes) (sym each) in
     passes_then (due f (suc n) ∷ dues) (follow f front ∷ due f n ∷ dues) dues bytes after (drop (size f * suc n) bytes)
-        (passes_one f n dues bytes front after (omega (arith, each, enough)) refl refl)
-        (moves (no_more (follow f front) (due f n ∷ dues) after (alone front)) (subst (λ l. Passes (due f n ∷ dues) after dues l) behind others))
+    (passes_one f n dues bytes front after (omega (arith, each, enough)) refl refl)
+    (moves (no_more (follow f front) (due f n ∷ dues) after (alone front)) (subst (λ l. Passes (due f n ∷ dues) after dues l) behind others))
 
 -- ---- in the code, where the first is taken out and put back
 

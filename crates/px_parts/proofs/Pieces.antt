@@ -1,19 +1,19 @@
 -- What a run of pieces gives.
-use Rattle.std.proofs.Common.{◌≡◌, ◌≢◌, ℕ, zero, suc, ◌+◌, ◌-◌, ◌<◌, ◌≤◌, List, [], ◌∷◌, ◌++◌, length, Result, Ok, Err, refl, sym, ap, subst, ◌∙◌, append_assoc, append-nil, arith}
+use Rattle.std.proofs.Common.{◌≡◌, ◌≢◌, ℕ, zero, suc, ◌+◌, ◌-◌, ◌<◌, List, [], ◌∷◌, ◌++◌, length, Result, Ok, Err, refl, sym, ap, subst, ◌∙◌, append_assoc, append-nil, arith}
 use Rattle.std.specs.Prelude.{take, drop, min}
 use Rattle.std.proofs.lemmas.List.{length-append, length-drop, length-take, drop_min, drop_all, take_all}
 use Rattle.std.proofs.Math.Seq.{take-nil}
 use Rattle.px_spelling.specs.declared.fault.WireFault.{WireFault}
 use Rattle.px_spelling.specs.declared.fault.WireFault.TheVariants.{NotAMessage, NoMemory}
-use Rattle.px_wire.specs.Messages.{MessageTree, Spells, message_bytes}
+use Rattle.px_wire.specs.Messages.{MessageTree, Spells}
 use Rattle.px_parts.specs.declared.part.Part.{Part}
 use Rattle.px_parts.specs.declared.part.Part.TheVariants as P
 use Rattle.px_parts.specs.declared.part.Taken.{Taken}
 use Rattle.px_parts.specs.declared.place.Place.{Place}
 use Rattle.px_parts.specs.declared.place.Place.TheVariants.{Start, Over}
 use Rattle.px_parts.specs.Parts.{parts_of, IsReplying}
-use Rattle.px_parts.specs.Stream.{IsStuck, Streams, stays, goes}
-use Rattle.px_parts.specs.Taking.{Waiting, waits, refuses, IsNext, IsFound, IsNoEnd, IsTakenOn, IsTaken}
+use Rattle.px_parts.specs.Stream.{Streams, stays}
+use Rattle.px_parts.specs.Taking.{Waiting, waits, refuses, IsNext, IsFound, IsTakenOn, IsTaken}
 use Rattle.px_parts.specs.Laws.{IsWhole, Takes, none, gave, held, joined, taken_of, IsEndAtMost, PartsAreThose}
 use Rattle.px_parts.proofs.Streaming.{streams_end, streams_begin, streams_more, no_further, longer}
 use Rattle.px_parts.proofs.MessageParts.{message_streams}
@@ -209,10 +209,10 @@ all_were_given n pieces piece parts w v (Ok t) m takes taken all replying spells
     let on : IsTakenOn at.place at.rest left piece (Ok t) v = answers w v at.place at.rest piece left (Ok t) at.is taken in
     let bytes = at.rest ++ take left piece in
     let partless : IsWhole t.part → ⊥ = λ whole.
-      let found = found_whole at.place bytes (left - length piece) t.part v whole on.1 in
-      let more = one_more n pieces piece parts (t.part ∷ []) w at.place found.0 at.rest found.1 at.is at.streams found.2 in
-      let e = streams_end Start found.0 (taken_of n pieces piece) found.1 (parts ++ t.part ∷ []) (parts_of m) more (said_streams m (taken_of n pieces piece) replying spells) in
-      longer parts e.0 t.part (sym are ∙ e.1) in
+    let found = found_whole at.place bytes (left - length piece) t.part v whole on.1 in
+    let more = one_more n pieces piece parts (t.part ∷ []) w at.place found.0 at.rest found.1 at.is at.streams found.2 in
+    let e = streams_end Start found.0 (taken_of n pieces piece) found.1 (parts ++ t.part ∷ []) (parts_of m) more (said_streams m (taken_of n pieces piece) replying spells) in
+    longer parts e.0 t.part (sym are ∙ e.1) in
     only_end at.place bytes (left - length piece) t.part v (no_more_left n pieces piece all) on.1 partless
 all_were_given n pieces piece parts w v (Err NotAMessage) m takes taken all replying spells are =
     refused n pieces piece parts w v takes taken [] (ap length (append-nil (taken_of n pieces piece)) ∙ all) m replying (subst (λ l. Spells l m) (sym (append-nil (taken_of n pieces piece))) spells)

@@ -1,8 +1,7 @@
 -- From one place to another bytes hold one list of parts.
-use Rattle.std.proofs.Common.{◌≡◌, ℕ, zero, suc, ◌+◌, ◌-◌, ◌<◌, ◌≤◌, List, [], ◌∷◌, ◌++◌, length, Option, Some, None, refl, sym, ap, subst, ◌∙◌, append_assoc, append-nil, arith}
+use Rattle.std.proofs.Common.{◌≡◌, ℕ, ◌+◌, ◌-◌, ◌<◌, List, [], ◌∷◌, ◌++◌, length, Option, Some, None, refl, sym, ap, subst, ◌∙◌, append_assoc, append-nil, arith}
 use Rattle.std.proofs.lemmas.Option.{same_Some}
 use Rattle.std.proofs.lemmas.List.{length-append}
-use Rattle.px_entry.specs.declared.entries.Entry.{Entry}
 use Rattle.px_spelling.specs.Reading.{Reader}
 use Rattle.px_spelling.specs.Numbers.{u32_bytes, u32_at}
 use Rattle.px_spelling.specs.Entries.{entry_bytes}

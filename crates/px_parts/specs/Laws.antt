@@ -10,7 +10,7 @@ use Rattle.px_parts.specs.declared.place.Place.{Place}
 use Rattle.px_parts.specs.declared.place.Place.TheVariants.{Start}
 use Rattle.px_parts.specs.Parts.{parts_of, IsReplying}
 use Rattle.px_parts.specs.Stream.{Streams}
-use Rattle.px_parts.specs.Taking.{Waiting, waits, refuses, IsTaken}
+use Rattle.px_parts.specs.Taking.{Waiting, waits, IsTaken}
 
 -- a part of a message
 abbrev pub IsWhole : Part → Type 0
