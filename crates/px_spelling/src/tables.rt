@@ -146,7 +146,11 @@ impl WireWith for Cause {
 
     fn is_in_range_with<S: Terms>(&self, terms: &S) -> bool {
         match self {
-            Cause::Undecided(conjuncts) => are_in_range_with(terms, MOST_CONJUNCTS, conjuncts.as_slice()),
+            Cause::Undecided(conjuncts) => are_in_range_with(
+                terms,
+                MOST_CONJUNCTS,
+                conjuncts.as_slice(),
+            ),
             Cause::Nodes(number) | Cause::Paths(number) | Cause::Outside(number) => {
                 number.is_in_range()
             }
@@ -213,6 +217,10 @@ impl WireWith for Table {
 
     fn is_in_range_with<S: Terms>(&self, terms: &S) -> bool {
         are_in_range_with(terms, MOST_ROWS, self.entries.as_slice())
-            && are_in_range_with(terms, MOST_ROWS - self.entries.len() as u32, self.drops.as_slice())
+            && are_in_range_with(
+                terms,
+                MOST_ROWS - self.entries.len() as u32,
+                self.drops.as_slice(),
+            )
     }
 }
