@@ -5,8 +5,7 @@ use Rattle.std.proofs.lemmas.List.{length-append, length-take, take_all}
 use Rattle.px_spelling.specs.declared.fault.WireFault.TheVariants.{NotAMessage, NoMemory}
 use Rattle.px_spelling.specs.Numbers.{u32_bytes, u64_bytes, u8_bytes}
 use Rattle.px_spelling.specs.Lists.{list_bytes}
-use Rattle.px_spelling.specs.Entries.{entry_bytes}
-use Rattle.px_spelling.specs.Tables.{gap_bytes}
+use Rattle.px_spelling.specs.InFull.{entry_bytes, gap_bytes}
 use Rattle.px_spelling.specs.Derivations.{derivation_bytes}
 use Rattle.px_wire.specs.Messages.{MessageTree, Spells}
 use Rattle.px_parts.specs.declared.part.Part.{Part}

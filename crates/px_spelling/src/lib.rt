@@ -6,7 +6,7 @@
 //! range has one spelling. `specs/` says it twice: `.._bytes` is the spelling of a value, and `.._at` what is read at the
 //! front of bytes. Each type's `is_in_range` says exactly whether a value is in range, and takes no memory.
 //!
-//! What holds polynomials is the same however these are spelled: `Terms` says how, and `InFull` spells each in full.
+//! How polynomials are spelled in what holds them is a parameter: `Terms` says it, and `InFull` spells each in full.
 //!
 //! Bytes are put to an `Output`, which sends them on to a target of its kind: to a list, to a count, or to what another crate
 //! has. The same bytes are put whatever the output, and nothing that puts them fails.
