@@ -8,8 +8,7 @@ use Rattle.px_spelling.specs.declared.fault.WireFault.{WireFault}
 use Rattle.px_spelling.specs.declared.fault.WireFault.TheVariants.{NotAMessage, NoMemory}
 use Rattle.px_spelling.specs.Reading.{Fails}
 use Rattle.px_spelling.specs.Numbers.{u32_bytes, IsU32, u32_at}
-use Rattle.px_spelling.specs.Entries.{entry_bytes, IsEntry}
-use Rattle.px_spelling.specs.Tables.{gap_bytes, IsGap}
+use Rattle.px_spelling.specs.InFull.{entry_bytes, IsEntry, gap_bytes, IsGap}
 use Rattle.px_spelling.specs.Derivations.{derivation_bytes, IsDerivation, derivation_at}
 use Rattle.px_wire.specs.TableRanges.{entry_within, gap_within}
 use Rattle.px_wire.specs.Messages.{any_types}

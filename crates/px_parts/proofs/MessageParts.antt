@@ -8,8 +8,8 @@ use Rattle.px_entry.specs.declared.tables.Gap.{Gap}
 use Rattle.px_entry.specs.declared.derivations.Derivation.{Derivation}
 use Rattle.px_spelling.specs.Numbers.{u8_bytes, u32_bytes, u64_bytes}
 use Rattle.px_spelling.specs.Lists.{list_bytes}
-use Rattle.px_spelling.specs.Entries.{entry_bytes, IsEntry}
-use Rattle.px_spelling.specs.Tables.{gap_bytes, IsGap, table_bytes, most_rows}
+use Rattle.px_spelling.specs.InFull.{entry_bytes, IsEntry, gap_bytes, IsGap, table_bytes}
+use Rattle.px_spelling.specs.Tables.{most_rows}
 use Rattle.px_spelling.specs.Derivations.{derivation_bytes, IsDerivation}
 use Rattle.px_wire.specs.TableRanges.{entry_within, gap_within}
 use Rattle.px_wire.specs.Messages.{MessageTree, request, reply, large, version, any_types, message_bytes, IsMessage}

@@ -4,8 +4,8 @@ use Rattle.std.proofs.lemmas.Option.{same_Some}
 use Rattle.std.proofs.lemmas.List.{length-append}
 use Rattle.px_spelling.specs.Reading.{Reader}
 use Rattle.px_spelling.specs.Numbers.{u32_bytes, u32_at}
-use Rattle.px_spelling.specs.Entries.{entry_bytes}
-use Rattle.px_spelling.specs.Tables.{gap_bytes, most_rows}
+use Rattle.px_spelling.specs.InFull.{entry_bytes, gap_bytes}
+use Rattle.px_spelling.specs.Tables.{most_rows}
 use Rattle.px_spelling.specs.Derivations.{derivation_bytes, derivation_at}
 use Rattle.px_parts.specs.declared.part.Part.{Part}
 use Rattle.px_parts.specs.declared.part.Part.TheVariants as P
