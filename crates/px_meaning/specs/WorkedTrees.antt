@@ -12,7 +12,7 @@ use Rattle.px_meaning.specs.Manifest.{IsManifest}
 use Rattle.px_meaning.specs.Events.{mark}
 use Rattle.px_syntax.specs.ProgramTree.{ProcedureTree}
 use Rattle.px_meaning.specs.TypedProgram.{TypedProgram}
-use Rattle.px_syntax.specs.TypedTree.{constant, null, local, arithmetic, allocate, get_char, an_expression, no_expressions, compare, local_place, cell_place, Statement, block, declare, assign, update, run_call, free, choose, loop, return, no_statements, statements_of}
+use Rattle.px_syntax.specs.TypedTree.{constant, null, local, arithmetic, allocate, get_char, passed, an_argument, no_arguments, compare, local_place, cell_place, Statement, block, declare, assign, update, run_call, free, choose, loop, return, no_statements, statements_of}
 use Rattle.px_meaning.specs.TreeCalls.{TreeCalls, BoundedTreeCalls}
 use Rattle.px_meaning.specs.WorkedBodies.{at, int_block, only_field, empty_heap, unchecked_bug, wraps_bug, reads_input_bug, unset_local_bug, until_freed, two_turns}
 
@@ -62,7 +62,7 @@ abbrev pub freed_by_callee_trees : ℕ → Option ProcedureTree
 freed_by_callee_trees zero = Some (a_procedure 0 1 (int_pointer ∷ []) None []
     (free_local 0 (at 1 21) (at 1 16) ∷ free_local 0 (at 1 29) (at 1 24) ∷ []))
 freed_by_callee_trees (suc f) = Some (a_procedure 1 2 [] None (int_pointer ∷ []) (declare 0 (Some (allocate int_block (at 2 21))) ∷ return_if_null 0 (at 2 44) (at 2 45)
-    ∷ run_call (record { 0 = 0 }) (an_expression (local 0 (at 2 61)) no_expressions) (at 2 59) ∷ []))
+    ∷ run_call (record { 0 = 0 }) (an_argument (passed (local 0 (at 2 61))) no_arguments) (at 2 59) ∷ []))
 
 abbrev pub freed_by_callee_program : TypedProgram
 freed_by_callee_program = record { types = One Int ∷ []; procedures = freed_by_callee_trees }

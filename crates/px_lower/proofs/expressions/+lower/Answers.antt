@@ -218,15 +218,12 @@ arguments-loop-e-init t c = λ last r h.
 
 pub arguments-loop-e-preserved : goal.arguments-loop-e-preserved
 arguments-loop-e-preserved t c = λ last r h.
-    c.loop-e.invariant last r (argument_more c.args.es.now c.loop-e.e-index c.e-item.result c.loop-e-test.true c.e-item.is c.loop-e.operands.items c.loop-e.behind (map command_tree c.loop-e.out.items) (map command_tree c.expression.new.out.items) c.in_ok-x.x last r c.in_ok-x.ensures (subst (λ xs. GivesAll (arguments_behind xs (drop (c.loop-e.e-index + 1) c.args.es.now) c.in_ok-x.x.next) (map command_tree c.expression.new.out.items) last r) c.in_ok-push.ensures.items h))
+    c.loop-e.invariant last r (argument_more c.args.es.now c.loop-e.e-index c.e-item.result c.loop-e-test.true c.e-item.is c.loop-e.operands.items c.argument.new.operands.items c.loop-e.behind (map command_tree c.loop-e.out.items) (map command_tree c.argument.new.out.items) c.in_ok-behind.behind last r c.in_ok-behind.ensures h)
 
-pub arguments-returns-in_err-x : goal.arguments-returns-in_err-x
-arguments-returns-in_err-x t c =
-    handed_on operands behind (all_arguments c.args.es.now c.args.next) (map command_tree c.args.out.now.items) _ c.from_residual-in_err-x.result c.in_err-x.field-0.0 (err_from_is_err_and c.from_residual-in_err-x.result c.from_residual-in_err-x.ensures.1) (c.loop-e.invariant (map command_tree c.expression.new.out.items) (Err c.in_err-x.field-0.0) (argument_fails c.args.es.now c.loop-e.e-index c.e-item.result c.loop-e-test.true c.e-item.is c.loop-e.operands.items c.loop-e.behind (map command_tree c.loop-e.out.items) (map command_tree c.expression.new.out.items) c.in_err-x.field-0.0 c.in_err-x.ensures))
-
-pub arguments-returns-in_err-push : goal.arguments-returns-in_err-push
-arguments-returns-in_err-push t c =
-    out_of_memory operands behind (all_arguments c.args.es.now c.args.next) (map command_tree c.args.out.now.items) _ c.from_residual-in_err-push.result (err_from_is_err_and c.from_residual-in_err-push.result c.from_residual-in_err-push.ensures.1)
+pub arguments-returns-in_err-behind : goal.arguments-returns-in_err-behind
+arguments-returns-in_err-behind t c =
+    handed_on operands behind (all_arguments c.args.es.now c.args.next) (map command_tree c.args.out.now.items) _ c.from_residual-in_err-behind.result c.in_err-behind.field-0.0 (err_from_is_err_and c.from_residual-in_err-behind.result c.from_residual-in_err-behind.ensures.1)
+    (c.loop-e.invariant (map command_tree c.argument.new.out.items) (Err c.in_err-behind.field-0.0) (argument_fails c.args.es.now c.loop-e.e-index c.e-item.result c.loop-e-test.true c.e-item.is c.loop-e.operands.items c.argument.new.operands.items c.loop-e.behind (map command_tree c.loop-e.out.items) (map command_tree c.argument.new.out.items) c.in_err-behind.field-0.0 c.in_err-behind.ensures))
 
 pub arguments-returns : goal.arguments-returns
 arguments-returns t c =
