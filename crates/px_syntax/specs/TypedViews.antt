@@ -70,7 +70,7 @@ abbrev mutual
   typed_row (more_of-TypedExpression e rest) = an_expression (typed_expression e) (typed_row rest)
 
   pub typed_argument : A.Argument → Argument
-  typed_argument (A.Passed' value) = passed (typed_expression value)
+  typed_argument (A.Passed value) = passed (typed_expression value)
   typed_argument (A.Erased' shape parts) = erased (typed_row parts)
 
   -- the arguments of a row
