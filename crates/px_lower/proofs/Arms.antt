@@ -269,6 +269,9 @@ module _ (e : Argument) (n : ℕ) (first : List CommandTree) where
   pub argument_handed_on : (mid : List CommandTree) (there values : List Operand) (h : Halt) (r : Result ℕ Halt) → IsErr r h → GivesMore this_argument first mid there values (Err h) → GivesMore this_argument first mid there values r
   argument_handed_on mid there values h r p q = subst (λ z. GivesMore this_argument first mid there values z) (sym (p.1 ∙ ap (λ z. Err z) p.2)) q
 
+  pub argument_without_memory : (mid : List CommandTree) (there values : List Operand) (r : Result ℕ Halt) → IsErr r NoMemory → GivesMore this_argument first mid there values r
+  argument_without_memory mid there values r p = argument_handed_on mid there values NoMemory r p tt
+
   module _ (t : TypedExpression) (is : e ≡ A.Passed t) (mid : List CommandTree) where
     abbrev alone : Operand → ℕ → Lowered (List Operand)
     alone x n = ready (x ∷ []) n

@@ -2,7 +2,7 @@ ghost use Rattle.std.specs.Prelude.{map};
 ghost use Rattle.px_core.specs.CommandTree.{command_tree};
 ghost use Rattle.px_syntax.specs.TypedTree.{arguments_of, statements_of};
 ghost use Rattle.px_syntax.specs.TypedTree as tree;
-ghost use Rattle.px_syntax.specs.TypedViews.{typed_expression, typed_statement};
+ghost use Rattle.px_syntax.specs.TypedViews.{typed_argument, typed_statement};
 ghost use Rattle.px_lower.specs.Lowering.{lowered_statement, lowered_statements};
 ghost use Rattle.px_lower.specs.Chains.{Does};
 

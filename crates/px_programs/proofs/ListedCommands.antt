@@ -12,7 +12,7 @@ use Rattle.px_syntax.specs.TypedTree.{Expression, constant, null, local, negated
 use Rattle.px_syntax.specs.declared.typed_expression.Arithmetic.TheVariants.{Add, Subtract, Multiply, Divide, Remainder}
 use Rattle.px_lower.specs.Lowering.{Lowered, and_then, doing, copy, lowered_expression, lowered_arguments, lowered_passed, lowered_condition, comparison, lowered_declaration, lowered_assignment, lowered_update, lowered_head, lowered_return, lowered_statement, lowered_statements, applied, operation, result_slot}
 use Rattle.px_lower.proofs.Sequences.{commands_then}
-use Rattle.px_programs.specs.Numbers.{IsListed, AreListed, IsTestListed, IsPlaceListed, IsListedIf, IsTestListedIf, IsStatementListed, AreStatementsListed}
+use Rattle.px_programs.specs.Numbers.{IsListed, AreListed, AreArgumentsListed, IsTestListed, IsPlaceListed, IsListedIf, IsTestListedIf, IsStatementListed, AreStatementsListed}
 use Rattle.px_programs.specs.ListedBodies.{IsCommandListed, AreCommandsListed}
 
 module _ (names types : ℕ) where

@@ -1,18 +1,23 @@
 -- Arguments and statements, one after another.
-use Rattle.std.proofs.Common.{◌≡◌, ◌∙◌, refl, sym, ap, subst, ℕ, ◌+◌, ◌<◌, ◌≤◌, List, [], ◌∷◌, ◌++◌, map, drop, length, get_or, append-nil, append_assoc, Result, Ok, Err}
+use Rattle.std.specs.Prelude.{⊤}
+use Rattle.std.proofs.Common.{◌≡◌, ◌∙◌, refl, sym, ap, subst, ℕ, ◌+◌, ◌<◌, ◌≤◌, List, [], ◌∷◌, ◌++◌, map, drop, length, get_or, append-nil, append_assoc, Result, Ok, Err, Vec, Global}
 use Rattle.std.proofs.lemmas.List.{drop_all}
 use Rattle.px_meaning.specs.Values.{BlockType, Value}
 use Rattle.px_meaning.specs.Execution.{Locals}
+use Rattle.px_syntax.specs.declared.typed_expression.TypedExpression.{TypedExpression}
 use Rattle.px_syntax.specs.declared.typed_expression.Argument.{Argument as RustArgument}
+use Rattle.px_syntax.specs.declared.typed_expression.Argument.TheVariants as A
 use Rattle.px_syntax.specs.declared.typed_statement.TypedStatement.{TypedStatement}
-use Rattle.px_syntax.specs.TypedTree.{Arguments, Argument, no_arguments, an_argument, passed, erased, arguments_of, statements_of}
-use Rattle.px_syntax.specs.TypedViews.{typed_argument, typed_statement}
+use Rattle.px_syntax.specs.TypedTree.{Arguments, Argument, no_arguments, an_argument, passed, erased, expressions_of, arguments_of, statements_of}
+use Rattle.px_syntax.specs.TypedViews.{typed_expression, typed_argument, typed_statement}
 use Rattle.px_replay.specs.declared.stop.Stop.{Stop}
 use Rattle.px_replay.specs.declared.flow.Flow.{Flow}
 use Rattle.px_replay.specs.declared.flow.Flow.TheVariants.{Falls, Breaks, Continues, Returns}
 use Rattle.px_replay.specs.Script.{PlainScript, Act, answers, goes_on}
-use Rattle.px_replay.specs.TreeReplay.{Ended, CallReplays, StatementReplays, Replays, ReplaysAll, ReplaysStatement, ReplaysStatements, on_fall}
+use Rattle.px_replay.specs.TreeReplay.{Ended, CallReplays, StatementReplays, Replays, ReplaysAll, PassesAll, ReplaysStatement, ReplaysStatements, on_fall}
 use Rattle.px_replay.specs.ChainReplay.{onto}
+use Rattle.px_replay.specs.Interpreted.{given_these}
+use Rattle.px_meaning.proofs.TreesSeen.{erased_seen}
 use Rattle.px_replay.proofs.ChainLemmas.{rest_is}
 
 onto_some : (values more : List Value) (r : Result (List Value) Stop) → onto values (onto more r) ≡ onto (values ++ more) r
@@ -59,6 +64,24 @@ module _ (types : List BlockType) (calls : CallReplays) where
   all_none (passed e) rest locals d s s' (Err x, s2, a, g) = (Err x, s2, a, g)
   all_none (erased parts) rest locals d s s' (Ok u, s2, a, (e1, f1)) = absurd cc
   all_none (erased parts) rest locals d s s' (Err x, s2, a, g) = (Err x, s2, a, g)
+
+  -- an argument alone
+  pub passed_stops : (a : RustArgument) (v : TypedExpression) → a ≡ A.Passed v → (locals : Locals) (d : Stop) (s s' : PlainScript) →
+      Replays types calls (typed_expression v) locals s (Err d) s' → All (an_argument (typed_argument a) no_arguments) locals s (Err d) s'
+  passed_stops a v is locals d s s' h = subst (λ a. All (an_argument (typed_argument a) no_arguments) locals s (Err d) s') (sym is) (Err d, s', h, (refl, refl))
+
+  pub passed_goes : (a : RustArgument) (v : TypedExpression) → a ≡ A.Passed v → (locals : Locals) (x : Value) (s s' : PlainScript) →
+      Replays types calls (typed_expression v) locals s (Ok x) s' → All (an_argument (typed_argument a) no_arguments) locals s (Ok (x ∷ [])) s'
+  passed_goes a v is locals x s s' h =
+      subst (λ a. All (an_argument (typed_argument a) no_arguments) locals s (Ok (x ∷ [])) s') (sym is) (Ok x, s', h, (Ok [], s', (refl, refl), (refl, refl)))
+
+  pub erased_done : (a : RustArgument) (es : List TypedExpression) (row : Vec TypedExpression Global) → a ≡ A.Erased row → es ≡ row.items → (locals : Locals) (r : Result ⊤ Stop) (s s' : PlainScript) →
+      PassesAll types calls (expressions_of (map typed_expression es)) locals s r s' → All (an_argument (typed_argument a) no_arguments) locals s (given_these [] r) s'
+  erased_done a es row is is_es locals r s s' h = subst (λ t. All (an_argument t no_arguments) locals s (given_these [] r) s') (sym (erased_seen a es row is is_es)) (by r h)
+    where
+      by : (r : Result ⊤ Stop) → PassesAll types calls (expressions_of (map typed_expression es)) locals s r s' → All (an_argument (erased (expressions_of (map typed_expression es))) no_arguments) locals s (given_these [] r) s'
+      by (Ok u) h = (Ok u, s', h, (refl, refl))
+      by (Err d) h = (Err d, s', h, (refl, refl))
 
   abbrev rest_of : List RustArgument → Locals → Act (List Value)
   rest_of es locals s r s' = All (arguments_of (map typed_argument es)) locals s r s'

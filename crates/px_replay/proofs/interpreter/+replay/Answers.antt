@@ -1,16 +1,16 @@
-use Rattle.std.proofs.Common.{◌≡◌, ◌∙◌, refl, ap, map, drop, sym, subst, Ok, Err, Vec, Global, ap₂, true, false, Bool, ◌-◌, ◌<◌, arith, get_or, rules, ◌+◌, option_map}
+use Rattle.std.proofs.Common.{◌≡◌, ◌∙◌, List, [], ◌∷◌, ◌++◌, append-nil, refl, ap, map, drop, sym, subst, Ok, Err, Vec, Global, ap₂, true, false, Bool, ◌-◌, ◌<◌, arith, get_or, rules, ◌+◌, option_map}
 use Rattle.std.proofs.lemmas.Result.{err_from_is_err_and}
 use Rattle.px_meaning.specs.Values.{Value, Unwritten}
 use Rattle.px_syntax.specs.TypedTree.{expressions_of, arguments_of, no_arguments, an_argument, no_expressions, an_expression, stop, evaluate, statements_of, Statement, run_call, free, choose, arithmetic, cell, call, compare, both, either, negated, truth, word, pointer, opposite, block, assign, update, loop}
 use Rattle.px_syntax.specs.TypedViews.{typed_expression, typed_argument, typed_statement, typed_condition, typed_place, arithmetic_link, relation_link, calculated, compared, cells, all_of, any_of}
 use Rattle.px_replay.specs.declared.flow.Flow.{Flow}
 use Rattle.px_replay.specs.Script.{plain_script, UnlessMemory, and_then, answers}
-use Rattle.px_replay.specs.Interpreted.{types_in, calls_of, given, ended}
+use Rattle.px_replay.specs.Interpreted.{types_in, calls_of, given, given_these, ended}
 use Rattle.px_replay.specs.Locals.{locals_map}
 use Rattle.px_replay.specs.ChainReplay.{onto, chained, loads_link, calculates_link, compares_link, and_link, or_link}
 use Rattle.px_replay.specs.TreeReplay.{ReplaysAll, PassesAll, reaches, ReplaysStatements, ReplaysStatement, Checks, assigns, updates, CallsReplay, returned, Replays, on_fall, loops, checks_if, on_turn}
 use Rattle.px_replay.proofs.ActLemmas.{ended_by, ended_surely, surely, unless}
-use Rattle.px_replay.proofs.ListLemmas.{arguments_more, arguments_stop, arguments_end, onto_none, statements_more, statements_stop, statements_end, ends_list}
+use Rattle.px_replay.proofs.ListLemmas.{passed_stops, passed_goes, erased_done, arguments_more, arguments_stop, arguments_end, onto_none, statements_more, statements_stop, statements_end, ends_list}
 use Rattle.std.specs.Prelude.{⊤}
 use Rattle.px_meaning.specs.Execution.{Locals}
 use Rattle.px_replay.specs.declared.flow.Flow.TheVariants.{Falls}
@@ -22,12 +22,12 @@ use Rattle.px_replay.proofs.PassLemmas.{effects_more, effects_stop, effects_end,
 use Rattle.px_replay.proofs.BodyLemmas.{body_at, got}
 use Rattle.px_replay.proofs.ChainLemmas.{chain_more, chain_stops, chain_ends, calculated_goes, calculated_stops, cells_goes, cells_stops, compared_goes, compared_stops, all_goes, all_stops, all_false, any_goes, any_stops, any_true, cells_same, chosen, passed}
 use Rattle.px_syntax.proofs.TypedEquations.{typed_trees, typed-Block}
-use Rattle.px_meaning.proofs.TreesSeen.{compare_seen, both_seen, either_seen, arithmetic_seen, call_seen, cell_seen, stop_seen}
+use Rattle.px_meaning.proofs.TreesSeen.{compare_seen, both_seen, either_seen, arithmetic_seen, call_seen, cell_seen, stop_seen, erased_seen}
 use Rattle.px_base.specs.declared.trace.MarkKind.TheVariants.{Iter, Done}
 use Rattle.px_replay.proofs.LoopLemmas.{took_mark, no_mark, next_turn, turn_goes, turn_ends}
 use Rattle.px_replay.specs.Operations.{used_value}
 use Rattle.px_syntax.specs.TypedTree as tree
-use Rattle.px_replay.proofs.Sizes.{size_of, test_size, value_size, test_size_if, place_size, statement_size, body_falls, falls, calculated_first, calculated_link, compared_first, compared_link, all_of_first, all_of_link, any_of_first, any_of_link, cells_first, part_in, argument_in, statement_in}
+use Rattle.px_replay.proofs.Sizes.{size_of, argument_size, test_size, value_size, test_size_if, place_size, statement_size, body_falls, falls, calculated_first, calculated_link, compared_first, compared_link, all_of_first, all_of_link, any_of_first, any_of_link, cells_first, part_in, argument_in, statement_in}
 use Rattle.px_replay.proofs.interpreter.+replay.Goals as goal
 
 pub arguments-loop-e-preserved : goal.arguments-loop-e-preserved
@@ -44,13 +44,26 @@ arguments-returns-in_err-argument t c =
     c.in_err-argument.ensures
 
 pub argument-returns-in_err-given-in-Passed : goal.argument-returns-in_err-given-in-Passed
-argument-returns-in_err-given-in-Passed t c = ?
+argument-returns-in_err-given-in-Passed t c =
+    let types = types_in c.args.callees.now in let calls = calls_of c.args.callees.now in let locals = locals_map c.args.locals.now in let s0 = plain_script c.args.script.now in let s1 = plain_script c.expression.new.script in let d = c.in_err-given-in-Passed.field-0.0 in let there = c.args.values.now.items in
+    ended_by Value ⊤ (λ s r s'. (more : List Value) × (there ≡ there ++ more) × ReplaysAll types calls (an_argument (typed_argument c.args.e.now) no_arguments) locals s (given_these more r) s') s0 s1 c.from_residual.result d (err_from_is_err_and c.from_residual.result c.from_residual.ensures.1)
+    (λ h. ([], sym (append-nil there), passed_stops types calls c.args.e.now c.in-Passed.value c.in-Passed.is locals d s0 s1 h)) c.in_err-given-in-Passed.ensures
 
 pub argument-returns-in_ok-push-in-Passed : goal.argument-returns-in_ok-push-in-Passed
-argument-returns-in_ok-push-in-Passed t c = ?
+argument-returns-in_ok-push-in-Passed t c =
+    let types = types_in c.args.callees.now in let calls = calls_of c.args.callees.now in let locals = locals_map c.args.locals.now in let s0 = plain_script c.args.script.now in let s1 = plain_script c.expression.new.script in
+    (c.in_ok-given-in-Passed.given ∷ [], c.in_ok-push-in-Passed.ensures.items, passed_goes types calls c.args.e.now c.in-Passed.value c.in-Passed.is locals c.in_ok-given-in-Passed.given s0 s1 c.in_ok-given-in-Passed.ensures)
 
 pub argument-returns-in-Erased : goal.argument-returns-in-Erased
-argument-returns-in-Erased t c = ?
+argument-returns-in-Erased t c =
+    let types = types_in c.args.callees.now in let calls = calls_of c.args.callees.now in let locals = locals_map c.args.locals.now in let s0 = plain_script c.args.script.now in let s1 = plain_script c.effects.new.script in let there = c.args.values.now.items in
+    unless c.effects.result (λ h. ([], sym (append-nil there), erased_done types calls c.args.e.now c.deref.result.now c.in-Erased.parts c.in-Erased.is c.deref.ensures.value locals c.effects.result s0 s1 h)) c.effects.ensures
+
+pub argument-expression-requires : goal.argument-expression-requires
+argument-expression-requires t c = let h = ap argument_size (ap typed_argument c.in-Passed.is) in (falls c.args.callees.now _ _ t c.decreases (omega (arith, h)), tt)
+
+pub argument-effects-requires : goal.argument-effects-requires
+argument-effects-requires t c = let h = ap argument_size (erased_seen c.args.e.now c.deref.result.now c.in-Erased.parts c.in-Erased.is c.deref.ensures.value) in (falls c.args.callees.now _ _ t c.decreases (omega (arith, h)), tt)
 
 pub arguments-returns : goal.arguments-returns
 arguments-returns t c =
