@@ -20,10 +20,10 @@ use Rattle.px_syntax.specs.declared.typed_expression.TypedExpression.TheVariants
 use Rattle.px_syntax.specs.declared.typed_expression.Argument.{Argument}
 use Rattle.px_syntax.specs.declared.typed_expression.Argument.TheVariants as A
 use Rattle.px_syntax.specs.declared.typed_expression.Condition.{Condition}
-use Rattle.px_syntax.specs.TypedTree.{Expression, Expressions, no_expressions, an_expression, Arguments, no_arguments, an_argument, passed, erased, Condition as Test, expressions_of, arguments_of, constant, null, local, negated, arithmetic, truth, cell, allocate, get_char, call, stop}
+use Rattle.px_syntax.specs.TypedTree.{Expression, Expressions, no_expressions, an_expression, Arguments, no_arguments, an_argument, Condition as Test, expressions_of, arguments_of, constant, null, local, negated, arithmetic, truth, cell, allocate, get_char, call, stop}
 use Rattle.px_syntax.specs.TypedViews.{typed_expression, typed_argument, typed_condition, arithmetic_link, calculated, cells}
-use Rattle.px_syntax.proofs.TypedEquations.{typed-Arithmetic, typed-Erased, typed-Stop}
-use Rattle.px_meaning.proofs.TreesSeen.{arithmetic_seen, cell_seen, call_seen, stop_seen}
+use Rattle.px_syntax.proofs.TypedEquations.{typed-Arithmetic, typed-Stop}
+use Rattle.px_meaning.proofs.TreesSeen.{arithmetic_seen, cell_seen, call_seen, erased_seen, stop_seen}
 use Rattle.px_lower.specs.declared.put.Given.{Given}
 use Rattle.px_lower.specs.declared.put.Decided.{Decided}
 use Rattle.px_lower.specs.declared.put.Halt.{Halt}
@@ -296,9 +296,7 @@ module _ (e : Argument) (n : ℕ) (first : List CommandTree) where
     no_value _ n = ready [] n
 
     erased_is : this_argument ≡ and_then erased_parts no_value
-    erased_is =
-        ap (λ e. lowered_arguments (an_argument (typed_argument e) no_arguments) n) is
-        ∙ ap (λ a. lowered_arguments (an_argument a no_arguments) n) (typed-Erased row ∙ sym (ap (λ ls. erased (expressions_of (map typed_expression ls))) is_es))
+    erased_is = ap (λ a. lowered_arguments (an_argument a no_arguments) n) (erased_seen e es row is is_es)
 
     pub parts_done : (r : Result ℕ Halt) → Does erased_parts first mid r → GivesMore this_argument first mid there there r
     parts_done (Ok x) p =

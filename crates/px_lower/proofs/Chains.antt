@@ -285,17 +285,19 @@ no_argument w = by w.value
     by None = refl
     by (Some xs) = ap (λ cs. let v : Lowered (List Operand) = record { commands = cs; value = Some xs; next = w.next } in v) (append-nil w.commands)
 
+-- what follows parts, with nothing before its values
+after_parts : (x : Lowered ⊤) (f : ℕ → Lowered (List Operand)) → and_then x (λ _ n. f n) ≡ and_then x (λ _ n. and_then (f n) (λ ys n. ready ys n))
+after_parts x f = by x.value
+  where
+    by : (o : Option ⊤) → made_of x.commands x.next o (λ _ n. f n) ≡ made_of x.commands x.next o (λ _ n. and_then (f n) (λ ys n. ready ys n))
+    by None = refl
+    by (Some u) = ap (λ w. behind x.commands w) (sym (no_argument (f x.next)))
+
 -- the first, and then the rest
 pub argument_one : (a : Argument) (rest : Arguments) (n : ℕ) →
     lowered_arguments (an_argument a rest) n ≡ and_then (lowered_arguments (an_argument a no_arguments) n) (λ xs n. and_then (lowered_arguments rest n) (λ ys n. ready (xs ++ ys) n))
 argument_one (passed e) rest n =
     sym (then_assoc (lowered_expression e n) (λ x n. and_then (lowered_arguments no_arguments n) (λ xs n. ready (x ∷ xs) n)) (λ xs n. and_then (lowered_arguments rest n) (λ ys n. ready (xs ++ ys) n)))
 argument_one (erased parts) rest n =
-    by x.value ∙ sym (then_assoc x (λ _ n. ready [] n) (λ xs n. and_then (lowered_arguments rest n) (λ ys n. ready (xs ++ ys) n)))
-  where
-    abbrev x : Lowered ⊤
-    x = lowered_passed parts n
-
-    by : (o : Option ⊤) → made_of x.commands x.next o (λ _ n. lowered_arguments rest n) ≡ made_of x.commands x.next o (λ _ n. and_then (lowered_arguments rest n) (λ ys n. ready ys n))
-    by None = refl
-    by (Some u) = ap (λ w. behind x.commands w) (sym (no_argument (lowered_arguments rest x.next)))
+    after_parts (lowered_passed parts n) (λ n. lowered_arguments rest n)
+    ∙ sym (then_assoc (lowered_passed parts n) (λ _ n. ready [] n) (λ xs n. and_then (lowered_arguments rest n) (λ ys n. ready (xs ++ ys) n)))
