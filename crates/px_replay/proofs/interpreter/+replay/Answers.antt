@@ -32,27 +32,20 @@ use Rattle.px_replay.proofs.interpreter.+replay.Goals as goal
 
 pub arguments-loop-e-preserved : goal.arguments-loop-e-preserved
 arguments-loop-e-preserved t c = λ r s' k.
-    let types = types_in c.args.callees.now in let calls = calls_of c.args.callees.now in let locals = locals_map c.args.locals.now in let (more, are, h) = c.in_ok-argument.ensures in subst (λ vs. ReplaysAll types calls (arguments_of (map typed_argument c.args.es.now)) locals (plain_script c.args.script.now) (onto vs r) s') (sym are)
-    (arguments_more types calls c.args.es.now c.args.es.now c.loop-e.e-index c.e-item.result locals c.loop-e.values.items more (plain_script c.args.script.now) (plain_script c.loop-e.script) (plain_script c.argument.new.script) r s'
-    c.loop-e-test.true c.e-item.is c.loop-e.invariant h k)
+    let types = types_in c.args.callees.now in let calls = calls_of c.args.callees.now in let locals = locals_map c.args.locals.now in let (more, are, h) = c.in_ok-argument.ensures in subst (λ vs. ReplaysAll types calls (arguments_of (map typed_argument c.args.es.now)) locals (plain_script c.args.script.now) (onto vs r) s') (sym are) (arguments_more types calls c.args.es.now c.args.es.now c.loop-e.e-index c.e-item.result locals c.loop-e.values.items more (plain_script c.args.script.now) (plain_script c.loop-e.script) (plain_script c.argument.new.script) r s' c.loop-e-test.true c.e-item.is c.loop-e.invariant h k)
 
 pub arguments-returns-in_err-argument : goal.arguments-returns-in_err-argument
 arguments-returns-in_err-argument t c =
-    let types = types_in c.args.callees.now in let calls = calls_of c.args.callees.now in let locals = locals_map c.args.locals.now in ended_by ⊤ (Vec Value Global) (λ s r s'. ReplaysAll types calls (arguments_of (map typed_argument c.args.es.now)) locals s (given r) s') (plain_script c.args.script.now) (plain_script c.argument.new.script)
-    c.from_residual-in_err-argument.result c.in_err-argument.field-0.0 (err_from_is_err_and c.from_residual-in_err-argument.result c.from_residual-in_err-argument.ensures.1)
-    (λ h. c.loop-e.invariant _ _ (arguments_stop types calls c.args.es.now c.loop-e.e-index c.e-item.result locals c.in_err-argument.field-0.0 (plain_script c.loop-e.script) (plain_script c.argument.new.script) c.loop-e-test.true c.e-item.is h.2))
-    c.in_err-argument.ensures
+    let types = types_in c.args.callees.now in let calls = calls_of c.args.callees.now in let locals = locals_map c.args.locals.now in ended_by ⊤ (Vec Value Global) (λ s r s'. ReplaysAll types calls (arguments_of (map typed_argument c.args.es.now)) locals s (given r) s') (plain_script c.args.script.now) (plain_script c.argument.new.script) c.from_residual-in_err-argument.result c.in_err-argument.field-0.0 (err_from_is_err_and c.from_residual-in_err-argument.result c.from_residual-in_err-argument.ensures.1) (λ h. c.loop-e.invariant _ _ (arguments_stop types calls c.args.es.now c.loop-e.e-index c.e-item.result locals c.in_err-argument.field-0.0 (plain_script c.loop-e.script) (plain_script c.argument.new.script) c.loop-e-test.true c.e-item.is h.2)) c.in_err-argument.ensures
 
 pub argument-returns-in_err-given-in-Passed : goal.argument-returns-in_err-given-in-Passed
 argument-returns-in_err-given-in-Passed t c =
     let types = types_in c.args.callees.now in let calls = calls_of c.args.callees.now in let locals = locals_map c.args.locals.now in let s0 = plain_script c.args.script.now in let s1 = plain_script c.expression.new.script in let d = c.in_err-given-in-Passed.field-0.0 in let there = c.args.values.now.items in
-    ended_by Value ⊤ (λ s r s'. (more : List Value) × (there ≡ there ++ more) × ReplaysAll types calls (an_argument (typed_argument c.args.e.now) no_arguments) locals s (given_these more r) s') s0 s1 c.from_residual.result d (err_from_is_err_and c.from_residual.result c.from_residual.ensures.1)
-    (λ h. ([], sym (append-nil there), passed_stops types calls c.args.e.now c.in-Passed.value c.in-Passed.is locals d s0 s1 h)) c.in_err-given-in-Passed.ensures
+    ended_by Value ⊤ (λ s r s'. (more : List Value) × (there ≡ there ++ more) × ReplaysAll types calls (an_argument (typed_argument c.args.e.now) no_arguments) locals s (given_these more r) s') s0 s1 c.from_residual.result d (err_from_is_err_and c.from_residual.result c.from_residual.ensures.1) (λ h. ([], sym (append-nil there), passed_stops types calls c.args.e.now c.in-Passed.value c.in-Passed.is locals d s0 s1 h)) c.in_err-given-in-Passed.ensures
 
 pub argument-returns-in_ok-push-in-Passed : goal.argument-returns-in_ok-push-in-Passed
 argument-returns-in_ok-push-in-Passed t c =
-    let types = types_in c.args.callees.now in let calls = calls_of c.args.callees.now in let locals = locals_map c.args.locals.now in let s0 = plain_script c.args.script.now in let s1 = plain_script c.expression.new.script in
-    (c.in_ok-given-in-Passed.given ∷ [], c.in_ok-push-in-Passed.ensures.items, passed_goes types calls c.args.e.now c.in-Passed.value c.in-Passed.is locals c.in_ok-given-in-Passed.given s0 s1 c.in_ok-given-in-Passed.ensures)
+    let types = types_in c.args.callees.now in let calls = calls_of c.args.callees.now in let locals = locals_map c.args.locals.now in let s0 = plain_script c.args.script.now in let s1 = plain_script c.expression.new.script in (c.in_ok-given-in-Passed.given ∷ [], c.in_ok-push-in-Passed.ensures.items, passed_goes types calls c.args.e.now c.in-Passed.value c.in-Passed.is locals c.in_ok-given-in-Passed.given s0 s1 c.in_ok-given-in-Passed.ensures)
 
 pub argument-returns-in-Erased : goal.argument-returns-in-Erased
 argument-returns-in-Erased t c =
@@ -67,8 +60,7 @@ argument-effects-requires t c = let h = ap argument_size (erased_seen c.args.e.n
 
 pub arguments-returns : goal.arguments-returns
 arguments-returns t c =
-    let types = types_in c.args.callees.now in let calls = calls_of c.args.callees.now in let locals = locals_map c.args.locals.now in subst (λ r. ReplaysAll types calls (arguments_of (map typed_argument c.args.es.now)) locals (plain_script c.args.script.now) r (plain_script c.loop-e.script)) (onto_none types calls c.loop-e.values.items)
-    (c.loop-e.invariant _ _ (arguments_end types calls c.args.es.now c.loop-e.e-index locals (plain_script c.loop-e.script) c.loop-e-test.false))
+    let types = types_in c.args.callees.now in let calls = calls_of c.args.callees.now in let locals = locals_map c.args.locals.now in subst (λ r. ReplaysAll types calls (arguments_of (map typed_argument c.args.es.now)) locals (plain_script c.args.script.now) r (plain_script c.loop-e.script)) (onto_none types calls c.loop-e.values.items) (c.loop-e.invariant _ _ (arguments_end types calls c.args.es.now c.loop-e.e-index locals (plain_script c.loop-e.script) c.loop-e-test.false))
 
 pub effects-loop-e-preserved : goal.effects-loop-e-preserved
 effects-loop-e-preserved t c = λ r s' k.
@@ -76,10 +68,7 @@ effects-loop-e-preserved t c = λ r s' k.
 
 pub effects-returns-in_err-effect : goal.effects-returns-in_err-effect
 effects-returns-in_err-effect t c =
-    let types = types_in c.args.callees.now in let calls = calls_of c.args.callees.now in let locals = locals_map c.args.locals.now in ended_by ⊤ ⊤ (λ s r s'. PassesAll types calls (expressions_of (map typed_expression c.args.es.now)) locals s r s') (plain_script c.args.script.now) (plain_script c.effect.new.script)
-    c.from_residual.result c.in_err-effect.field-0.0 (err_from_is_err_and c.from_residual.result c.from_residual.ensures.1)
-    (λ h. c.loop-e.invariant _ _ (effects_stop types calls c.args.es.now c.loop-e.e-index c.e-item.result locals c.in_err-effect.field-0.0 (plain_script c.loop-e.script) (plain_script c.effect.new.script) c.loop-e-test.true c.e-item.is h))
-    c.in_err-effect.ensures
+    let types = types_in c.args.callees.now in let calls = calls_of c.args.callees.now in let locals = locals_map c.args.locals.now in ended_by ⊤ ⊤ (λ s r s'. PassesAll types calls (expressions_of (map typed_expression c.args.es.now)) locals s r s') (plain_script c.args.script.now) (plain_script c.effect.new.script) c.from_residual.result c.in_err-effect.field-0.0 (err_from_is_err_and c.from_residual.result c.from_residual.ensures.1) (λ h. c.loop-e.invariant _ _ (effects_stop types calls c.args.es.now c.loop-e.e-index c.e-item.result locals c.in_err-effect.field-0.0 (plain_script c.loop-e.script) (plain_script c.effect.new.script) c.loop-e-test.true c.e-item.is h)) c.in_err-effect.ensures
 
 pub effects-returns : goal.effects-returns
 effects-returns t c =
@@ -91,8 +80,7 @@ effects-effect-requires t c = let h = part_in c.args.es.now c.loop-e.e-index c.e
 pub expression-returns-in_err-effects-in-Stop : goal.expression-returns-in_err-effects-in-Stop
 expression-returns-in_err-effects-in-Stop t c =
     let types = types_in c.args.callees.now in let calls = calls_of c.args.callees.now in let locals = locals_map c.args.locals.now in let s0 = plain_script c.args.script.now in let s1 = plain_script c.effects.new.script in let d = c.in_err-effects-in-Stop.field-0.0 in let eq : typed_expression c.args.e.now ≡ stop c.in-Stop.word c.in-Stop.site (expressions_of (map typed_expression c.deref-in-Stop.result.now)) = stop_seen c.args.e.now c.deref-in-Stop.result.now c.in-Stop.word c.in-Stop.site c.in-Stop.parts c.in-Stop.is c.deref-in-Stop.ensures.value in
-    ended_by ⊤ Value (λ s r s'. Replays types calls (typed_expression c.args.e.now) locals s r s') s0 s1 c.from_residual-in_err-effects-in-Stop.result d (err_from_is_err_and c.from_residual-in_err-effects-in-Stop.result c.from_residual-in_err-effects-in-Stop.ensures.1)
-    (λ h. subst (λ e. Replays types calls e locals s0 (Err d) s1) (sym eq) (Err d, s1, h, (refl, refl))) c.in_err-effects-in-Stop.ensures
+    ended_by ⊤ Value (λ s r s'. Replays types calls (typed_expression c.args.e.now) locals s r s') s0 s1 c.from_residual-in_err-effects-in-Stop.result d (err_from_is_err_and c.from_residual-in_err-effects-in-Stop.result c.from_residual-in_err-effects-in-Stop.ensures.1) (λ h. subst (λ e. Replays types calls e locals s0 (Err d) s1) (sym eq) (Err d, s1, h, (refl, refl))) c.in_err-effects-in-Stop.ensures
 
 pub expression-returns-in_ok-effects-in-Stop : goal.expression-returns-in_ok-effects-in-Stop
 expression-returns-in_ok-effects-in-Stop t c =
@@ -108,8 +96,7 @@ effect-returns-in-Local t c = subst (λ e. PassesAll (types_in c.args.callees.no
 pub effect-returns-in_err-at-in-Cell : goal.effect-returns-in_err-at-in-Cell
 effect-returns-in_err-at-in-Cell t c =
     let types = types_in c.args.callees.now in let calls = calls_of c.args.callees.now in let locals = locals_map c.args.locals.now in let s0 = plain_script c.args.script.now in let s1 = plain_script c.cells.new.script in let d = c.in_err-at-in-Cell.field-0.0 in let eq : typed_expression c.args.e.now ≡ cell (cells (typed_expression c.deref.result.now) c.deref-in-Cell.result.now) c.in-Cell.field c.in-Cell.block c.in-Cell.site = cell_seen c.args.e.now c.deref.result.now c.deref-in-Cell.result.now c.in-Cell.pointer c.in-Cell.before c.in-Cell.field c.in-Cell.block c.in-Cell.site c.in-Cell.is c.deref.ensures c.deref-in-Cell.ensures.value in
-    ended_by Value ⊤ (λ s r s'. PassesAll types calls (an_expression (typed_expression c.args.e.now) no_expressions) locals s r s') s0 s1 c.from_residual.result d (err_from_is_err_and c.from_residual.result c.from_residual.ensures.1)
-    (λ h. subst (λ e. PassesAll types calls (an_expression e no_expressions) locals s0 (Err d) s1) (sym eq) (Err d, s1, h, (refl, refl))) c.in_err-at-in-Cell.ensures
+    ended_by Value ⊤ (λ s r s'. PassesAll types calls (an_expression (typed_expression c.args.e.now) no_expressions) locals s r s') s0 s1 c.from_residual.result d (err_from_is_err_and c.from_residual.result c.from_residual.ensures.1) (λ h. subst (λ e. PassesAll types calls (an_expression e no_expressions) locals s0 (Err d) s1) (sym eq) (Err d, s1, h, (refl, refl))) c.in_err-at-in-Cell.ensures
 
 pub effect-returns-in_ok-at-in-Cell : goal.effect-returns-in_ok-at-in-Cell
 effect-returns-in_ok-at-in-Cell t c =
@@ -119,14 +106,12 @@ effect-returns-in_ok-at-in-Cell t c =
 pub effect-returns-in_err-values-in-Call : goal.effect-returns-in_err-values-in-Call
 effect-returns-in_err-values-in-Call t c =
     let types = types_in c.args.callees.now in let calls = calls_of c.args.callees.now in let locals = locals_map c.args.locals.now in let s0 = plain_script c.args.script.now in let s1 = plain_script c.arguments.new.script in let d = c.in_err-values-in-Call.field-0.0 in let eq : typed_expression c.args.e.now ≡ call c.in-Call.proc (arguments_of (map typed_argument c.deref-in-Call.result.now)) c.in-Call.result c.in-Call.site = call_seen c.args.e.now c.deref-in-Call.result.now c.in-Call.proc c.in-Call.es c.in-Call.result c.in-Call.site c.in-Call.is c.deref-in-Call.ensures.value in
-    ended_by (Vec Value Global) ⊤ (λ s r s'. PassesAll types calls (an_expression (typed_expression c.args.e.now) no_expressions) locals s r s') s0 s1 c.from_residual-in_err-values-in-Call.result d (err_from_is_err_and c.from_residual-in_err-values-in-Call.result c.from_residual-in_err-values-in-Call.ensures.1)
-    (λ h. subst (λ e. PassesAll types calls (an_expression e no_expressions) locals s0 (Err d) s1) (sym eq) (Err d, s1, h, (refl, refl))) c.in_err-values-in-Call.ensures
+    ended_by (Vec Value Global) ⊤ (λ s r s'. PassesAll types calls (an_expression (typed_expression c.args.e.now) no_expressions) locals s r s') s0 s1 c.from_residual-in_err-values-in-Call.result d (err_from_is_err_and c.from_residual-in_err-values-in-Call.result c.from_residual-in_err-values-in-Call.ensures.1) (λ h. subst (λ e. PassesAll types calls (an_expression e no_expressions) locals s0 (Err d) s1) (sym eq) (Err d, s1, h, (refl, refl))) c.in_err-values-in-Call.ensures
 
 pub effect-returns-in_err-call-in-Call : goal.effect-returns-in_err-call-in-Call
 effect-returns-in_err-call-in-Call t c =
     let types = types_in c.args.callees.now in let calls = calls_of c.args.callees.now in let locals = locals_map c.args.locals.now in let s0 = plain_script c.args.script.now in let sx = plain_script c.arguments.new.script in let s1 = plain_script c.call.new.script in let d = c.in_err-call-in-Call.field-0.0 in let eq : typed_expression c.args.e.now ≡ call c.in-Call.proc (arguments_of (map typed_argument c.deref-in-Call.result.now)) c.in-Call.result c.in-Call.site = call_seen c.args.e.now c.deref-in-Call.result.now c.in-Call.proc c.in-Call.es c.in-Call.result c.in-Call.site c.in-Call.is c.deref-in-Call.ensures.value in
-    ended_by Value ⊤ (λ s r s'. PassesAll types calls (an_expression (typed_expression c.args.e.now) no_expressions) locals s r s') s0 s1 c.from_residual-in_err-call-in-Call.result d (err_from_is_err_and c.from_residual-in_err-call-in-Call.result c.from_residual-in_err-call-in-Call.ensures.1)
-    (λ h. subst (λ e. PassesAll types calls (an_expression e no_expressions) locals s0 (Err d) s1) (sym eq) (Ok c.in_ok-values-in-Call.values.items, sx, c.in_ok-values-in-Call.ensures, (Err d, s1, h, (refl, refl)))) c.in_err-call-in-Call.ensures
+    ended_by Value ⊤ (λ s r s'. PassesAll types calls (an_expression (typed_expression c.args.e.now) no_expressions) locals s r s') s0 s1 c.from_residual-in_err-call-in-Call.result d (err_from_is_err_and c.from_residual-in_err-call-in-Call.result c.from_residual-in_err-call-in-Call.ensures.1) (λ h. subst (λ e. PassesAll types calls (an_expression e no_expressions) locals s0 (Err d) s1) (sym eq) (Ok c.in_ok-values-in-Call.values.items, sx, c.in_ok-values-in-Call.ensures, (Err d, s1, h, (refl, refl)))) c.in_err-call-in-Call.ensures
 
 pub effect-returns-in_ok-call-in-Call : goal.effect-returns-in_ok-call-in-Call
 effect-returns-in_ok-call-in-Call t c =
@@ -316,16 +301,14 @@ condition-returns-in_err-x-in-Compare t c =
     let types = types_in c.args.callees.now in let calls = calls_of c.args.callees.now in let locals = locals_map c.args.locals.now in let s0 = plain_script c.args.script.now in let s1 = plain_script c.comparisons.new.script in let d = c.in_err-x-in-Compare.field-0.0 in let eq : typed_condition c.args.c.now ≡ compare c.in-Compare.relation (compared (typed_expression c.deref.result.now) (map relation_link c.deref-in-Compare.result.now)) (typed_expression c.in-Compare.right.value) c.in-Compare.site =
     compare_seen c.args.c.now c.deref.result.now (c.in-Compare.right.value) c.deref-in-Compare.result.now c.in-Compare.first c.in-Compare.before c.in-Compare.relation c.in-Compare.right c.in-Compare.site
     c.in-Compare.is c.deref.ensures c.deref-in-Compare.ensures.value refl in
-    ended_by Value Bool (λ s r s'. Checks types calls (typed_condition c.args.c.now) locals s r s') s0 s1 c.from_residual.result d (err_from_is_err_and c.from_residual.result c.from_residual.ensures.1)
-    (λ h. subst (λ e. Checks types calls e locals s0 (Err d) s1) (sym eq) (Err d, s1, h, (refl, refl))) c.in_err-x-in-Compare.ensures
+    ended_by Value Bool (λ s r s'. Checks types calls (typed_condition c.args.c.now) locals s r s') s0 s1 c.from_residual.result d (err_from_is_err_and c.from_residual.result c.from_residual.ensures.1) (λ h. subst (λ e. Checks types calls e locals s0 (Err d) s1) (sym eq) (Err d, s1, h, (refl, refl))) c.in_err-x-in-Compare.ensures
 
 pub condition-returns-in_err-y-in-Compare : goal.condition-returns-in_err-y-in-Compare
 condition-returns-in_err-y-in-Compare t c =
     let types = types_in c.args.callees.now in let calls = calls_of c.args.callees.now in let locals = locals_map c.args.locals.now in let s0 = plain_script c.args.script.now in let s1 = plain_script c.expression.new.script in let d = c.in_err-y-in-Compare.field-0.0 in let sx = plain_script c.comparisons.new.script in let eq : typed_condition c.args.c.now ≡ compare c.in-Compare.relation (compared (typed_expression c.deref.result.now) (map relation_link c.deref-in-Compare.result.now)) (typed_expression c.deref-in-Compare-2.result.now) c.in-Compare.site =
     compare_seen c.args.c.now c.deref.result.now (c.deref-in-Compare-2.result.now) c.deref-in-Compare.result.now c.in-Compare.first c.in-Compare.before c.in-Compare.relation c.in-Compare.right c.in-Compare.site
     c.in-Compare.is c.deref.ensures c.deref-in-Compare.ensures.value c.deref-in-Compare-2.ensures in
-    ended_by Value Bool (λ s r s'. Checks types calls (typed_condition c.args.c.now) locals s r s') s0 s1 c.from_residual-in_err-y-in-Compare.result d (err_from_is_err_and c.from_residual-in_err-y-in-Compare.result c.from_residual-in_err-y-in-Compare.ensures.1)
-    (λ h. subst (λ e. Checks types calls e locals s0 (Err d) s1) (sym eq) (Ok c.in_ok-x-in-Compare.x, sx, c.in_ok-x-in-Compare.ensures, (Err d, s1, h, (refl, refl)))) c.in_err-y-in-Compare.ensures
+    ended_by Value Bool (λ s r s'. Checks types calls (typed_condition c.args.c.now) locals s r s') s0 s1 c.from_residual-in_err-y-in-Compare.result d (err_from_is_err_and c.from_residual-in_err-y-in-Compare.result c.from_residual-in_err-y-in-Compare.ensures.1) (λ h. subst (λ e. Checks types calls e locals s0 (Err d) s1) (sym eq) (Ok c.in_ok-x-in-Compare.x, sx, c.in_ok-x-in-Compare.ensures, (Err d, s1, h, (refl, refl)))) c.in_err-y-in-Compare.ensures
 
 pub condition-returns-in_ok-y-in-Compare : goal.condition-returns-in_ok-y-in-Compare
 condition-returns-in_ok-y-in-Compare t c =
@@ -339,15 +322,13 @@ pub condition-returns-in_err-conjunction-in-And : goal.condition-returns-in_err-
 condition-returns-in_err-conjunction-in-And t c =
     let types = types_in c.args.callees.now in let calls = calls_of c.args.callees.now in let locals = locals_map c.args.locals.now in let s0 = plain_script c.args.script.now in let s1 = plain_script c.conjunction.new.script in let d = c.in_err-conjunction-in-And.field-0.0 in let eq : typed_condition c.args.c.now ≡ both (all_of (typed_condition c.deref-in-And.result.now) (map typed_condition c.deref-in-And-2.result.now)) (typed_condition c.in-And.right.value) =
     both_seen c.args.c.now c.deref-in-And.result.now (c.in-And.right.value) c.deref-in-And-2.result.now c.in-And.first c.in-And.before c.in-And.right c.in-And.is c.deref-in-And.ensures c.deref-in-And-2.ensures.value refl in
-    ended_by Bool Bool (λ s r s'. Checks types calls (typed_condition c.args.c.now) locals s r s') s0 s1 c.from_residual-in_err-conjunction-in-And.result d (err_from_is_err_and c.from_residual-in_err-conjunction-in-And.result c.from_residual-in_err-conjunction-in-And.ensures.1)
-    (λ h. subst (λ e. Checks types calls e locals s0 (Err d) s1) (sym eq) (Err d, s1, h, (refl, refl))) c.in_err-conjunction-in-And.ensures
+    ended_by Bool Bool (λ s r s'. Checks types calls (typed_condition c.args.c.now) locals s r s') s0 s1 c.from_residual-in_err-conjunction-in-And.result d (err_from_is_err_and c.from_residual-in_err-conjunction-in-And.result c.from_residual-in_err-conjunction-in-And.ensures.1) (λ h. subst (λ e. Checks types calls e locals s0 (Err d) s1) (sym eq) (Err d, s1, h, (refl, refl))) c.in_err-conjunction-in-And.ensures
 
 pub condition-returns-in_err-disjunction-in-Or : goal.condition-returns-in_err-disjunction-in-Or
 condition-returns-in_err-disjunction-in-Or t c =
     let types = types_in c.args.callees.now in let calls = calls_of c.args.callees.now in let locals = locals_map c.args.locals.now in let s0 = plain_script c.args.script.now in let s1 = plain_script c.disjunction.new.script in let d = c.in_err-disjunction-in-Or.field-0.0 in let eq : typed_condition c.args.c.now ≡ either (any_of (typed_condition c.deref-in-Or.result.now) (map typed_condition c.deref-in-Or-2.result.now)) (typed_condition c.in-Or.right.value) =
     either_seen c.args.c.now c.deref-in-Or.result.now (c.in-Or.right.value) c.deref-in-Or-2.result.now c.in-Or.first c.in-Or.before c.in-Or.right c.in-Or.is c.deref-in-Or.ensures c.deref-in-Or-2.ensures.value refl in
-    ended_by Bool Bool (λ s r s'. Checks types calls (typed_condition c.args.c.now) locals s r s') s0 s1 c.from_residual-in_err-disjunction-in-Or.result d (err_from_is_err_and c.from_residual-in_err-disjunction-in-Or.result c.from_residual-in_err-disjunction-in-Or.ensures.1)
-    (λ h. subst (λ e. Checks types calls e locals s0 (Err d) s1) (sym eq) (Err d, s1, h, (refl, refl))) c.in_err-disjunction-in-Or.ensures
+    ended_by Bool Bool (λ s r s'. Checks types calls (typed_condition c.args.c.now) locals s r s') s0 s1 c.from_residual-in_err-disjunction-in-Or.result d (err_from_is_err_and c.from_residual-in_err-disjunction-in-Or.result c.from_residual-in_err-disjunction-in-Or.ensures.1) (λ h. subst (λ e. Checks types calls e locals s0 (Err d) s1) (sym eq) (Err d, s1, h, (refl, refl))) c.in_err-disjunction-in-Or.ensures
 
 pub condition-returns-then-branch : goal.condition-returns-then-branch
 condition-returns-then-branch t c =
@@ -443,16 +424,14 @@ expression-returns-in_err-x-in-Arithmetic t c =
     let types = types_in c.args.callees.now in let calls = calls_of c.args.callees.now in let locals = locals_map c.args.locals.now in let s0 = plain_script c.args.script.now in let s1 = plain_script c.calculations.new.script in let d = c.in_err-x-in-Arithmetic.field-0.0 in let eq : typed_expression c.args.e.now ≡ arithmetic c.in-Arithmetic.operator (calculated (typed_expression c.deref-in-Arithmetic.result.now) (map arithmetic_link c.deref-in-Arithmetic-2.result.now)) (typed_expression c.in-Arithmetic.right.value) =
     arithmetic_seen c.args.e.now c.deref-in-Arithmetic.result.now (c.in-Arithmetic.right.value) c.deref-in-Arithmetic-2.result.now c.in-Arithmetic.first c.in-Arithmetic.before c.in-Arithmetic.operator c.in-Arithmetic.right
     c.in-Arithmetic.is c.deref-in-Arithmetic.ensures c.deref-in-Arithmetic-2.ensures.value refl in
-    ended_by Value Value (λ s r s'. Replays types calls (typed_expression c.args.e.now) locals s r s') s0 s1 c.from_residual-in_err-x-in-Arithmetic.result d (err_from_is_err_and c.from_residual-in_err-x-in-Arithmetic.result c.from_residual-in_err-x-in-Arithmetic.ensures.1)
-    (λ h. subst (λ e. Replays types calls e locals s0 (Err d) s1) (sym eq) (Err d, s1, h, (refl, refl))) c.in_err-x-in-Arithmetic.ensures
+    ended_by Value Value (λ s r s'. Replays types calls (typed_expression c.args.e.now) locals s r s') s0 s1 c.from_residual-in_err-x-in-Arithmetic.result d (err_from_is_err_and c.from_residual-in_err-x-in-Arithmetic.result c.from_residual-in_err-x-in-Arithmetic.ensures.1) (λ h. subst (λ e. Replays types calls e locals s0 (Err d) s1) (sym eq) (Err d, s1, h, (refl, refl))) c.in_err-x-in-Arithmetic.ensures
 
 pub expression-returns-in_err-y-in-Arithmetic : goal.expression-returns-in_err-y-in-Arithmetic
 expression-returns-in_err-y-in-Arithmetic t c =
     let types = types_in c.args.callees.now in let calls = calls_of c.args.callees.now in let locals = locals_map c.args.locals.now in let s0 = plain_script c.args.script.now in let s1 = plain_script c.expression-in-Arithmetic.new.script in let d = c.in_err-y-in-Arithmetic.field-0.0 in let sx = plain_script c.calculations.new.script in let eq : typed_expression c.args.e.now ≡ arithmetic c.in-Arithmetic.operator (calculated (typed_expression c.deref-in-Arithmetic.result.now) (map arithmetic_link c.deref-in-Arithmetic-2.result.now)) (typed_expression c.deref-in-Arithmetic-3.result.now) =
     arithmetic_seen c.args.e.now c.deref-in-Arithmetic.result.now (c.deref-in-Arithmetic-3.result.now) c.deref-in-Arithmetic-2.result.now c.in-Arithmetic.first c.in-Arithmetic.before c.in-Arithmetic.operator c.in-Arithmetic.right
     c.in-Arithmetic.is c.deref-in-Arithmetic.ensures c.deref-in-Arithmetic-2.ensures.value c.deref-in-Arithmetic-3.ensures in
-    ended_by Value Value (λ s r s'. Replays types calls (typed_expression c.args.e.now) locals s r s') s0 s1 c.from_residual-in_err-y-in-Arithmetic.result d (err_from_is_err_and c.from_residual-in_err-y-in-Arithmetic.result c.from_residual-in_err-y-in-Arithmetic.ensures.1)
-    (λ h. subst (λ e. Replays types calls e locals s0 (Err d) s1) (sym eq) (Ok c.in_ok-x-in-Arithmetic.x, sx, c.in_ok-x-in-Arithmetic.ensures, (Err d, s1, h, (refl, refl)))) c.in_err-y-in-Arithmetic.ensures
+    ended_by Value Value (λ s r s'. Replays types calls (typed_expression c.args.e.now) locals s r s') s0 s1 c.from_residual-in_err-y-in-Arithmetic.result d (err_from_is_err_and c.from_residual-in_err-y-in-Arithmetic.result c.from_residual-in_err-y-in-Arithmetic.ensures.1) (λ h. subst (λ e. Replays types calls e locals s0 (Err d) s1) (sym eq) (Ok c.in_ok-x-in-Arithmetic.x, sx, c.in_ok-x-in-Arithmetic.ensures, (Err d, s1, h, (refl, refl)))) c.in_err-y-in-Arithmetic.ensures
 
 pub expression-returns-in_ok-y-in-Arithmetic : goal.expression-returns-in_ok-y-in-Arithmetic
 expression-returns-in_ok-y-in-Arithmetic t c =
@@ -465,8 +444,7 @@ expression-returns-in_ok-y-in-Arithmetic t c =
 pub expression-returns-in_err-at-in-Cell : goal.expression-returns-in_err-at-in-Cell
 expression-returns-in_err-at-in-Cell t c =
     let types = types_in c.args.callees.now in let calls = calls_of c.args.callees.now in let locals = locals_map c.args.locals.now in let s0 = plain_script c.args.script.now in let s1 = plain_script c.cells.new.script in let d = c.in_err-at-in-Cell.field-0.0 in let eq : typed_expression c.args.e.now ≡ cell (cells (typed_expression c.deref-in-Cell.result.now) c.deref-in-Cell-2.result.now) c.in-Cell.field c.in-Cell.block c.in-Cell.site = search (rules, typed_trees) in
-    ended_by Value Value (λ s r s'. Replays types calls (typed_expression c.args.e.now) locals s r s') s0 s1 c.from_residual-in_err-at-in-Cell.result d (err_from_is_err_and c.from_residual-in_err-at-in-Cell.result c.from_residual-in_err-at-in-Cell.ensures.1)
-    (λ h. subst (λ e. Replays types calls e locals s0 (Err d) s1) (sym eq) (Err d, s1, h, (refl, refl))) c.in_err-at-in-Cell.ensures
+    ended_by Value Value (λ s r s'. Replays types calls (typed_expression c.args.e.now) locals s r s') s0 s1 c.from_residual-in_err-at-in-Cell.result d (err_from_is_err_and c.from_residual-in_err-at-in-Cell.result c.from_residual-in_err-at-in-Cell.ensures.1) (λ h. subst (λ e. Replays types calls e locals s0 (Err d) s1) (sym eq) (Err d, s1, h, (refl, refl))) c.in_err-at-in-Cell.ensures
 
 pub expression-returns-in_ok-at-in-Cell : goal.expression-returns-in_ok-at-in-Cell
 expression-returns-in_ok-at-in-Cell t c =
@@ -477,8 +455,7 @@ pub expression-returns-in_err-values-in-Call : goal.expression-returns-in_err-va
 expression-returns-in_err-values-in-Call t c =
     let types = types_in c.args.callees.now in let calls = calls_of c.args.callees.now in let locals = locals_map c.args.locals.now in let s0 = plain_script c.args.script.now in let s1 = plain_script c.arguments.new.script in let d = c.in_err-values-in-Call.field-0.0 in let eq : typed_expression c.args.e.now ≡ call c.in-Call.proc (arguments_of (map typed_argument c.deref-in-Call.result.now)) c.in-Call.result c.in-Call.site =
     call_seen c.args.e.now c.deref-in-Call.result.now c.in-Call.proc c.in-Call.es c.in-Call.result c.in-Call.site c.in-Call.is c.deref-in-Call.ensures.value in
-    ended_by (Vec Value Global) Value (λ s r s'. Replays types calls (typed_expression c.args.e.now) locals s r s') s0 s1 c.from_residual-in_err-values-in-Call.result d (err_from_is_err_and c.from_residual-in_err-values-in-Call.result c.from_residual-in_err-values-in-Call.ensures.1)
-    (λ h. subst (λ e. Replays types calls e locals s0 (Err d) s1) (sym eq) (Err d, s1, h, (refl, refl))) c.in_err-values-in-Call.ensures
+    ended_by (Vec Value Global) Value (λ s r s'. Replays types calls (typed_expression c.args.e.now) locals s r s') s0 s1 c.from_residual-in_err-values-in-Call.result d (err_from_is_err_and c.from_residual-in_err-values-in-Call.result c.from_residual-in_err-values-in-Call.ensures.1) (λ h. subst (λ e. Replays types calls e locals s0 (Err d) s1) (sym eq) (Err d, s1, h, (refl, refl))) c.in_err-values-in-Call.ensures
 
 pub expression-returns-in_err-value-in-Call : goal.expression-returns-in_err-value-in-Call
 expression-returns-in_err-value-in-Call t c =
