@@ -313,7 +313,7 @@ of_tree e e' n first last z is q = subst (λ e. Gives (lowered_expression (typed
 abbrev pub IsPlain : Expression → Type 0
 IsPlain (local i site) = ⊥
 IsPlain (cell p field block site) = ⊥
-IsPlain (call proc arguments result site) = ⊥
+IsPlain (call proc es type site) = ⊥
 IsPlain e = ⊤
 
 pub plain_seen : (e : TypedExpression) → ((i : ℕ) (site : Site) → e ≡ E.Local i site → ⊥) →
@@ -347,7 +347,7 @@ passed_plain (truth c) h n = refl
 passed_plain (cell p field block site) h n = absurd h
 passed_plain (allocate block site) h n = refl
 passed_plain (get_char site) h n = refl
-passed_plain (call proc arguments result site) h n = absurd h
+passed_plain (call proc es type site) h n = absurd h
 passed_plain (stop number site parts) h n = refl
 
 pub passed_plain_fails : (t : Expression) → IsPlain t → (n : ℕ) (first mid : List CommandTree) (h : Halt) (z : Result ℕ Halt) → IsErr z h → Gives (lowered_expression t n) first mid (Err h) → Does (lowered_passed (an_expression t no_expressions) n) first mid z

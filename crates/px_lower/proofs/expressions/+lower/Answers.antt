@@ -231,8 +231,8 @@ arguments-returns t c =
 
 pub argument-returns-in_err-x-in-Passed : goal.argument-returns-in_err-x-in-Passed
 argument-returns-in_err-x-in-Passed t c =
-    argument_handed_on c.args.e.now c.args.next (map command_tree c.args.out.now.items) _ c.args.operands.now.items _ c.in_err-x-in-Passed.field-0.0 c.from_residual.result (err_from_is_err_and c.from_residual.result c.from_residual.ensures.1)
-    (value_fails c.args.e.now c.args.next (map command_tree c.args.out.now.items) c.in-Passed.value c.in-Passed.is _ c.args.operands.now.items _ c.in_err-x-in-Passed.field-0.0 c.in_err-x-in-Passed.ensures)
+    argument_handed_on c.args.e.now c.args.next (map command_tree c.args.out.now.items) _ c.args.operands.now.items c.args.operands.now.items c.in_err-x-in-Passed.field-0.0 c.from_residual.result (err_from_is_err_and c.from_residual.result c.from_residual.ensures.1)
+    (value_fails c.args.e.now c.args.next (map command_tree c.args.out.now.items) c.in-Passed.value c.in-Passed.is _ c.args.operands.now.items c.args.operands.now.items c.in_err-x-in-Passed.field-0.0 c.in_err-x-in-Passed.ensures)
 
 pub argument-returns-in_err-push-in-Passed : goal.argument-returns-in_err-push-in-Passed
 argument-returns-in_err-push-in-Passed t c =
