@@ -1,5 +1,5 @@
 -- What was found in the bytes that are held is the answer to the piece.
-use Rattle.std.proofs.Common.{◌≡◌, ℕ, zero, suc, ◌+◌, ◌-◌, ◌<◌, ◌≤◌, List, [], ◌∷◌, ◌++◌, length, Option, Some, None, Bool, true, false, Result, Ok, Err, refl, sym, ap, subst, ◌∙◌, append-nil, arith}
+use Rattle.std.proofs.Common.{◌≡◌, ℕ, ◌+◌, ◌-◌, ◌<◌, ◌≤◌, List, [], ◌∷◌, ◌++◌, length, Option, Some, None, Bool, true, false, Result, Ok, Err, refl, sym, ap, subst, ◌∙◌, append-nil, arith}
 use Rattle.std.specs.Prelude.{take, drop, min}
 use Rattle.std.proofs.lemmas.List.{nil_from_length, take_min, length-append, length-take}
 use Rattle.std.proofs.Math.Nat.{min_comm}
@@ -13,7 +13,7 @@ use Rattle.px_parts.specs.declared.place.Place.TheVariants.{Over}
 use Rattle.px_parts.specs.declared.unread.Unread.{Unread}
 use Rattle.px_parts.specs.Stream.{Streams, stays, those, IsStuck}
 use Rattle.px_parts.specs.Skims.{IsEnded}
-use Rattle.px_parts.specs.Taking.{Waiting, waits, refuses, IsNext, IsFound, IsNoEnd, IsTakenOn}
+use Rattle.px_parts.specs.Taking.{Waiting, waits, IsFound, IsTakenOn}
 use Rattle.px_parts.specs.Kept.{held_in, waiting_of, kept_after, IsQuiet, IsAnswer, IsSame}
 use Rattle.px_parts.proofs.Streaming.{first_is_part, no_end_with}
 use Rattle.px_parts.proofs.Skimming.{ended_stuck}

@@ -1,5 +1,5 @@
 -- What a step reads comes there, and where it reads nothing, nothing comes.
-use Rattle.std.proofs.Common.{◌≡◌, ◌≢◌, ℕ, zero, suc, ◌-◌, ◌≤◌, List, [], ◌∷◌, ◌++◌, Option, Some, None, Result, Ok, Err, true, refl, sym, ap, subst, ◌∙◌, arith}
+use Rattle.std.proofs.Common.{◌≡◌, ◌≢◌, ℕ, zero, suc, ◌-◌, ◌≤◌, List, [], ◌++◌, Option, Some, None, Result, Ok, Err, true, refl, sym, ap, subst, ◌∙◌, arith}
 use Rattle.std.specs.Prelude.{IsErrOf}
 use Rattle.px_entry.specs.declared.entries.Entry.{Entry}
 use Rattle.px_entry.specs.declared.tables.Gap.{Gap}
@@ -8,8 +8,7 @@ use Rattle.px_spelling.specs.declared.fault.WireFault.{WireFault}
 use Rattle.px_spelling.specs.declared.fault.WireFault.TheVariants.{NotAMessage, NoMemory}
 use Rattle.px_spelling.specs.Reading.{Fails}
 use Rattle.px_spelling.specs.Numbers.{u32_bytes, IsU32, u32_at}
-use Rattle.px_spelling.specs.Entries.{entry_bytes, IsEntry}
-use Rattle.px_spelling.specs.Tables.{gap_bytes, IsGap}
+use Rattle.px_spelling.specs.InFull.{entry_bytes, IsEntry, gap_bytes, IsGap}
 use Rattle.px_spelling.specs.Derivations.{derivation_bytes, IsDerivation, derivation_at}
 use Rattle.px_wire.specs.TableRanges.{entry_within, gap_within}
 use Rattle.px_wire.specs.Messages.{any_types}
@@ -19,7 +18,7 @@ use Rattle.px_parts.specs.declared.place.Place.{Place}
 use Rattle.px_parts.specs.declared.place.Place.TheVariants.{Start, EntryCount, Entries, DropCount, Drops, DerivationCount, Derivations, Over}
 use Rattle.px_parts.specs.Parts.{part_bytes, IsHead}
 use Rattle.px_parts.specs.Reading.{head_at, count_at, own_entry_at, own_drop_at}
-use Rattle.px_parts.specs.Stream.{after_head, Comes, head, entry_count, entry, all_entries, drop_count, a_drop, all_drops, derivation_count, derivation, all_derivations, Arrives, IsStuck}
+use Rattle.px_parts.specs.Stream.{after_head, head, entry_count, entry, all_entries, drop_count, a_drop, all_drops, derivation_count, derivation, all_derivations, Arrives, IsStuck}
 use Rattle.px_parts.proofs.Stuck.{stuck_start, stuck_entry_count, stuck_entry, stuck_drop_count, stuck_drop, stuck_derivation_count, stuck_derivation}
 
 none_read : {Y : Type 0} (e : WireFault) (read : Option Y) → Fails e read → e ≡ NotAMessage → read ≡ None

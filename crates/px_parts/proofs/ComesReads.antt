@@ -1,14 +1,12 @@
 -- What comes at a place is read there, whatever follows it.
-use Rattle.std.proofs.Common.{◌≡◌, ℕ, ◌≤◌, List, [], ◌∷◌, ◌++◌, true, sym, subst}
+use Rattle.std.proofs.Common.{◌≡◌, ℕ, ◌≤◌, ◌∷◌, ◌++◌, true, sym, subst}
 use Rattle.std.specs.Prelude.{nat_le}
 use Rattle.std.proofs.lemmas.Bool.{le-leb}
 use Rattle.px_entry.specs.declared.entries.Entry.{Entry}
 use Rattle.px_entry.specs.declared.tables.Gap.{Gap}
 use Rattle.px_spelling.specs.Numbers.{u8_bytes, IsU8, u8_at, u32_bytes, IsU32, u32_at, u64_bytes}
 use Rattle.px_spelling.specs.Lists.{list_bytes, list_at, any_number}
-use Rattle.px_spelling.specs.Reading.{done, ◌<*>◌}
-use Rattle.px_spelling.specs.Entries.{entry_bytes, IsEntry, entry_at}
-use Rattle.px_spelling.specs.Tables.{gap_bytes, IsGap, gap_at}
+use Rattle.px_spelling.specs.InFull.{entry_bytes, IsEntry, entry_at, gap_bytes, IsGap, gap_at}
 use Rattle.px_wire.specs.TableRanges.{entry_within, gap_within}
 use Rattle.px_wire.specs.JobRanges.{rises}
 use Rattle.px_wire.specs.Messages.{any_types, version}
@@ -18,8 +16,7 @@ use Rattle.px_parts.specs.declared.part.Part.TheVariants as P
 use Rattle.px_parts.specs.Parts.{part_bytes, IsHead}
 use Rattle.px_parts.specs.Reading.{reply_head_at, large_head_at, head_with, with_version, versioned_at, head_at, count_at, own_entry_at, own_drop_at}
 use Rattle.px_spelling.proofs.RoundTrip.{ReadsAs, done_reads, ◌⊛◌, tagged, u8_round_trip, u32_round_trip, u64_round_trip, list_round_trip}
-use Rattle.px_spelling.proofs.EntryRoundTrips.{entry_round_trip}
-use Rattle.px_spelling.proofs.TableRoundTrips.{gap_round_trip}
+use Rattle.px_spelling.proofs.InFullRoundTrips.{entry_round_trip, gap_round_trip}
 use Rattle.px_wire.proofs.JobRoundTrips.{tested}
 
 pub head_reads : (x : Part) → IsHead x → ReadsAs head_at (part_bytes x) x

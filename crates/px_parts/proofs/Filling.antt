@@ -1,16 +1,16 @@
 -- The bytes of a part are passed over, and no more.
-use Rattle.std.proofs.Common.{◌≡◌, ℕ, zero, suc, ◌<◌, ◌≤◌, List, [], ◌∷◌, ◌++◌, length, Option, Some, None, true, false, refl, sym, ap, subst, ◌∙◌, append_assoc, append-nil, arith}
-use Rattle.std.specs.Prelude.{take, drop, IfSome}
+use Rattle.std.proofs.Common.{◌≡◌, ℕ, suc, ◌≤◌, List, [], ◌∷◌, ◌++◌, length, refl, sym, ap, subst, ◌∙◌, append_assoc, append-nil, arith}
+use Rattle.std.specs.Prelude.{take, drop}
 use Rattle.std.specs.List.{flat_map, AllByRecursion}
 use Rattle.std.proofs.lemmas.List.{take_at, drop_at, length-append}
 use Rattle.std.proofs.lemmas.List.Concat.{flat_map-cons}
 use Rattle.std.proofs.lemmas.Nat.{from_be_bytes-to_be_bytes_4}
-use Rattle.px_spelling.specs.Numbers.{u8_bytes, IsU8, u32_bytes, IsU32, u64_bytes}
+use Rattle.px_spelling.specs.Numbers.{u32_bytes, IsU32}
 use Rattle.px_spelling.specs.Lists.{list_bytes, IsList}
 use Rattle.px_parts.specs.declared.form.Form.{Form}
 use Rattle.px_parts.specs.declared.form.Form.TheVariants as F
 use Rattle.px_parts.specs.declared.form.Due.{Due}
-use Rattle.px_parts.specs.Forms.{size, due, count_in, follow, next_of, next, Passes, stands, moves}
+use Rattle.px_parts.specs.Forms.{size, due, count_in, follow, Passes, stands, moves}
 use Rattle.px_parts.proofs.Passing.{leaves, told_at, passes_then}
 
 -- bytes of so many of a form

@@ -1,13 +1,9 @@
 -- A reader of a new message goes on from piece to piece.
-use Rattle.std.proofs.Common.{◌≡◌, ℕ, zero, suc, ◌+◌, ◌-◌, ◌<◌, ◌≤◌, List, [], ◌∷◌, ◌++◌, length, Option, Some, None, Result, Ok, Err, refl, sym, ap, subst, ◌∙◌, append_assoc, append-nil, arith}
-use Rattle.std.specs.Prelude.{take, min}
+use Rattle.std.proofs.Common.{◌≡◌, ℕ, ◌+◌, ◌-◌, ◌<◌, ◌≤◌, List, [], ◌∷◌, ◌++◌, length, Some, None, Ok, Err, refl, sym, ap, subst, ◌∙◌, append-nil, arith}
+use Rattle.std.specs.Prelude.{take}
 use Rattle.std.proofs.lemmas.List.{length-append, length-take, take_all}
-use Rattle.px_spelling.specs.declared.fault.WireFault.TheVariants.{NotAMessage, NoMemory}
-use Rattle.px_spelling.specs.Numbers.{u32_bytes, u64_bytes, u8_bytes}
-use Rattle.px_spelling.specs.Lists.{list_bytes}
-use Rattle.px_spelling.specs.Entries.{entry_bytes}
-use Rattle.px_spelling.specs.Tables.{gap_bytes}
-use Rattle.px_spelling.specs.Derivations.{derivation_bytes}
+use Rattle.px_spelling.specs.declared.fault.WireFault.TheVariants.{NotAMessage}
+use Rattle.px_spelling.specs.Numbers.{u32_bytes}
 use Rattle.px_wire.specs.Messages.{MessageTree, Spells}
 use Rattle.px_parts.specs.declared.part.Part.{Part}
 use Rattle.px_parts.specs.declared.part.Part.TheVariants as P
@@ -15,8 +11,8 @@ use Rattle.px_parts.specs.declared.part.Taken.{Taken}
 use Rattle.px_parts.specs.declared.place.Place.{Place}
 use Rattle.px_parts.specs.declared.place.Place.TheVariants.{Start, Over}
 use Rattle.px_parts.specs.Parts.{part_bytes, IsHead, parts_of, IsReplying}
-use Rattle.px_parts.specs.Stream.{Comes, head, entry_count, entry, all_entries, drop_count, a_drop, all_drops, derivation_count, derivation, all_derivations, Arrives, Streams, stays, goes, those}
-use Rattle.px_parts.specs.Taking.{Waiting, waits, refuses, IsNext, IsFound, IsNoEnd, IsTakenOn, IsTaken}
+use Rattle.px_parts.specs.Stream.{Comes, head, entry, a_drop, derivation, Streams, stays, goes}
+use Rattle.px_parts.specs.Taking.{Waiting, waits, refuses, IsFound, IsTakenOn, IsTaken}
 use Rattle.px_parts.specs.Laws.{IsWhole}
 use Rattle.px_parts.specs.Following.{HasGiven, to_give, PartsFollow}
 use Rattle.px_parts.proofs.Streaming.{streams_begin, streams_more}

@@ -43,10 +43,11 @@ use Rattle.px_spelling.specs.Numbers.{u32_bytes, IsU32, i32_bytes, u8_bytes, IsU
 use Rattle.px_spelling.specs.Lists.{list_bytes, IsList, any_number, option_bytes}
 use Rattle.px_spelling.specs.Traces.{proc_id_bytes, site_bytes, mark_kind_bytes, mark_bytes, IsMark, kind_bytes}
 use Rattle.px_spelling.specs.Types.{type_id_bytes, value_type_bytes, var_bytes, sort_bytes, var_info_bytes, IsVarInfo, value_bytes, IsValue}
-use Rattle.px_spelling.specs.Conjuncts.{place_bytes, content_bytes, IsContent, conj_bytes, IsConj}
+use Rattle.px_spelling.specs.Conjuncts.{place_bytes}
+use Rattle.px_spelling.specs.InFull.{content_bytes, IsContent, conj_bytes, IsConj, atom_state_bytes, IsAtomState, atom_bytes, IsAtom, entry_bytes, IsEntry, cause_bytes, IsCause, gap_bytes, IsGap}
 use Rattle.px_spelling.specs.Polynomials.{term_bytes, IsTerm, polynomial_bytes, IsPolynomialInRange}
-use Rattle.px_spelling.specs.Entries.{atom_state_bytes, IsAtomState, atom_bytes, IsAtom, exit_bytes, entry_bytes, IsEntry}
-use Rattle.px_spelling.specs.Tables.{long_kind_bytes, cause_bytes, IsCause, gap_bytes, IsGap}
+use Rattle.px_spelling.specs.Entries.{exit_bytes}
+use Rattle.px_spelling.specs.Tables.{long_kind_bytes}
 use Rattle.px_spelling.specs.Derivations.{step_bytes, IsStep, derivation_bytes, IsDerivation}
 use Rattle.px_parts.specs.declared.form.Form.TheVariants as F
 use Rattle.px_parts.specs.Forms.{due, entry_dues, drop_dues}

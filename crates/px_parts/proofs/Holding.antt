@@ -1,7 +1,7 @@
 -- Bytes that are held, and those behind what was found.
-use Rattle.std.proofs.Common.{◌≡◌, ℕ, ◌+◌, ◌-◌, ◌≤◌, List, [], ◌∷◌, ◌++◌, length, refl, sym, ap, subst, ◌∙◌, append_assoc, arith}
-use Rattle.std.specs.Prelude.{take, drop, min}
-use Rattle.std.proofs.lemmas.List.{take_all, length-append, length-drop, length-take, take-append-drop, drop-take, drop-append-le}
+use Rattle.std.proofs.Common.{◌≡◌, ℕ, ◌+◌, ◌-◌, ◌≤◌, List, [], ◌++◌, length, refl, sym, ap, subst, ◌∙◌, append_assoc, arith}
+use Rattle.std.specs.Prelude.{take, drop}
+use Rattle.std.proofs.lemmas.List.{length-append, length-drop, length-take, take-append-drop, drop-take, drop-append-le}
 use Rattle.std.proofs.Math.Seq.{take-append_seam, drop-append_seam}
 use Rattle.px_parts.specs.declared.part.Part.{Part}
 use Rattle.px_parts.specs.declared.place.Place.{Place}

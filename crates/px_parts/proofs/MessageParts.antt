@@ -1,24 +1,23 @@
 -- The bytes of a message hold its parts.
-use Rattle.std.proofs.Common.{◌≡◌, ℕ, suc, ◌+◌, ◌-◌, ◌≤◌, List, [], ◌∷◌, ◌++◌, length, map, true, Some, None, refl, sym, ap, subst, ◌∙◌, append_assoc, append-nil}
+use Rattle.std.proofs.Common.{◌≡◌, ℕ, ◌-◌, List, [], ◌∷◌, ◌++◌, length, map, true, Some, None, refl, sym, ap, ◌∙◌, append_assoc, append-nil}
 use Rattle.std.specs.List.{flat_map, list_all, AllByRecursion}
 use Rattle.std.proofs.lemmas.Bool.{and_parts}
 use Rattle.std.proofs.lemmas.List.Concat.{flat_map-cons}
 use Rattle.px_entry.specs.declared.entries.Entry.{Entry}
 use Rattle.px_entry.specs.declared.tables.Gap.{Gap}
 use Rattle.px_entry.specs.declared.derivations.Derivation.{Derivation}
-use Rattle.px_spelling.specs.Numbers.{u8_bytes, u32_bytes, IsU32, u64_bytes}
-use Rattle.px_spelling.specs.Lists.{list_bytes, IsList, any_number}
-use Rattle.px_spelling.specs.Entries.{entry_bytes, IsEntry}
-use Rattle.px_spelling.specs.Tables.{gap_bytes, IsGap, table_bytes, most_rows}
+use Rattle.px_spelling.specs.Numbers.{u8_bytes, u32_bytes, u64_bytes}
+use Rattle.px_spelling.specs.Lists.{list_bytes}
+use Rattle.px_spelling.specs.InFull.{entry_bytes, IsEntry, gap_bytes, IsGap, table_bytes}
+use Rattle.px_spelling.specs.Tables.{most_rows}
 use Rattle.px_spelling.specs.Derivations.{derivation_bytes, IsDerivation}
 use Rattle.px_wire.specs.TableRanges.{entry_within, gap_within}
 use Rattle.px_wire.specs.Messages.{MessageTree, request, reply, large, version, any_types, message_bytes, IsMessage}
 use Rattle.px_parts.specs.declared.part.Part.{Part}
 use Rattle.px_parts.specs.declared.part.Part.TheVariants as P
-use Rattle.px_parts.specs.declared.place.Place.{Place}
 use Rattle.px_parts.specs.declared.place.Place.TheVariants.{Start, EntryCount, Entries, DropCount, Drops, DerivationCount, Derivations, Over}
 use Rattle.px_parts.specs.Parts.{part_bytes, table_parts, parts_of, IsReplying}
-use Rattle.px_parts.specs.Stream.{Comes, head, entry_count, entry, all_entries, drop_count, a_drop, all_drops, derivation_count, derivation, all_derivations, those, Streams, stays, goes}
+use Rattle.px_parts.specs.Stream.{head, entry_count, entry, all_entries, drop_count, a_drop, all_drops, derivation_count, derivation, all_derivations, Streams, stays, goes}
 
 derivations_stream : (ds : List Derivation) → AllByRecursion IsDerivation ds → Streams (Derivations (length ds)) (flat_map derivation_bytes ds) (map P.Derivation ds) Over []
 derivations_stream [] all = goes None ([], all_derivations [] refl, refl) stays refl

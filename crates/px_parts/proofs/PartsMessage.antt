@@ -1,5 +1,5 @@
 -- Bytes that hold parts to the end of a message are that message.
-use Rattle.std.proofs.Common.{◌≡◌, ℕ, zero, suc, ◌+◌, ◌-◌, ◌<◌, ◌≤◌, ◌^◌, List, [], ◌∷◌, ◌++◌, length, map, true, Some, None, refl, sym, ap, subst, ◌∙◌, append_assoc, append-nil, arith}
+use Rattle.std.proofs.Common.{◌≡◌, ℕ, suc, ◌-◌, ◌<◌, ◌≤◌, ◌^◌, List, [], ◌∷◌, ◌++◌, length, map, true, refl, sym, ap, subst, ◌∙◌, append_assoc, append-nil, arith}
 use Rattle.std.specs.List.{flat_map, list_all, AllByRecursion}
 use Rattle.std.proofs.lemmas.Bool.{and_from}
 use Rattle.std.proofs.lemmas.List.Concat.{flat_map-cons}
@@ -9,17 +9,17 @@ use Rattle.px_entry.specs.declared.tables.Table.{Table}
 use Rattle.px_entry.specs.declared.derivations.Derivation.{Derivation}
 use Rattle.px_spelling.specs.Numbers.{u8_bytes, u32_bytes, IsU32, u64_bytes}
 use Rattle.px_spelling.specs.Lists.{list_bytes, IsList, any_number}
-use Rattle.px_spelling.specs.Entries.{entry_bytes, IsEntry}
-use Rattle.px_spelling.specs.Tables.{gap_bytes, IsGap, table_bytes, IsTable, most_rows}
+use Rattle.px_spelling.specs.InFull.{entry_bytes, IsEntry, gap_bytes, IsGap, table_bytes, IsTable}
+use Rattle.px_spelling.specs.Tables.{most_rows}
 use Rattle.px_spelling.specs.Derivations.{derivation_bytes, IsDerivation}
 use Rattle.px_wire.specs.TableRanges.{entry_within, gap_within, table_within}
-use Rattle.px_wire.specs.Messages.{MessageTree, request, reply, large, version, any_types, message_bytes, IsMessage, Spells}
+use Rattle.px_wire.specs.Messages.{MessageTree, reply, large, version, any_types, Spells}
 use Rattle.px_parts.specs.declared.part.Part.{Part}
 use Rattle.px_parts.specs.declared.part.Part.TheVariants as P
 use Rattle.px_parts.specs.declared.place.Place.{Place}
 use Rattle.px_parts.specs.declared.place.Place.TheVariants.{Start, EntryCount, Entries, DropCount, Drops, DerivationCount, Derivations, Over}
 use Rattle.px_parts.specs.Parts.{part_bytes, IsHead, table_parts, parts_of, IsReplying}
-use Rattle.px_parts.specs.Stream.{after_head, Comes, head, entry_count, entry, all_entries, drop_count, a_drop, all_drops, derivation_count, derivation, all_derivations, those, Streams, stays, goes}
+use Rattle.px_parts.specs.Stream.{after_head, head, entry_count, entry, all_entries, drop_count, a_drop, all_drops, derivation_count, derivation, all_derivations, Streams, stays, goes}
 use Rattle.px_parts.proofs.Stuck.{stuck_over}
 use Rattle.px_parts.proofs.MessageParts.{by_lists}
 

@@ -1,9 +1,9 @@
 -- Bytes are passed over in one way.
-use Rattle.std.proofs.Common.{◌≡◌, ◌≢◌, ℕ, zero, suc, ◌+◌, ◌-◌, ◌<◌, ◌≤◌, List, [], ◌∷◌, ◌++◌, length, Option, Some, None, Bool, true, false, refl, sym, ap, subst, ◌∙◌, append_assoc, arith}
+use Rattle.std.proofs.Common.{◌≡◌, ◌≢◌, ℕ, zero, suc, ◌+◌, ◌*◌, ◌-◌, ◌<◌, ◌≤◌, List, [], ◌∷◌, ◌++◌, length, Option, Some, None, Bool, true, false, refl, sym, ap, subst, ◌∙◌, append_assoc, arith}
 use Rattle.std.specs.Prelude.{take, drop, nat_lt, if◌then◌else◌}
 use Rattle.std.proofs.lemmas.Bool.{lt-ltb, le-ltb, ltb-false}
 use Rattle.std.proofs.lemmas.Option.{none-some, same_Some}
-use Rattle.std.proofs.lemmas.List.{length-append, take-append-drop, take-append-le, drop-append-le}
+use Rattle.std.proofs.lemmas.List.{length-append, length-drop, drop-drop, take-append-drop, take-append-le, drop-append-le}
 use Rattle.std.proofs.Math.Seq.{drop-append_seam}
 use Rattle.px_parts.specs.declared.form.Form.{Form}
 use Rattle.px_parts.specs.declared.form.Due.{Due}
@@ -17,6 +17,9 @@ leaves dues bytes = Some (dues, bytes)
 
 pub no_more : (d : Due) (dues : List Due) (bytes : List ℕ) → d.count ≡ 0 → next (d ∷ dues) bytes ≡ leaves dues bytes
 no_more d dues bytes none = ap (λ n. next_of d.form n dues bytes) none
+
+pub passes_no_more : (d : Due) (dues : List Due) (bytes : List ℕ) → d.count ≡ 0 → Passes (d ∷ dues) bytes dues bytes
+passes_no_more d dues bytes none = moves (no_more d dues bytes none) stands
 
 -- what is told where there are enough bytes
 abbrev told : Form → ℕ → List Due → List ℕ → Option (List Due × List ℕ)
@@ -39,6 +42,10 @@ next_told f zero dues bytes front rest some there is_front is_rest = absurd (som
 next_told f (suc n) dues bytes front rest some there is_front is_rest =
     let less : suc n - 1 ≡ n = omega arith in
     told_at f n dues bytes front rest there is_front is_rest ∙ ap (λ k. leaves (follow f front ∷ due f k ∷ dues) rest) (sym less)
+
+pub passes_one : (f : Form) (n : ℕ) (dues : List Due) (bytes front rest : List ℕ) → size f ≤ length bytes → front ≡ take (size f) bytes → rest ≡ drop (size f) bytes →
+    Passes (due f (suc n) ∷ dues) bytes (follow f front ∷ due f n ∷ dues) rest
+passes_one f n dues bytes front rest there is_front is_rest = moves (told_at f n dues bytes front rest there is_front is_rest) stands
 
 pub next_short : (f : Form) (n : ℕ) (dues : List Due) (bytes : List ℕ) → n ≢ 0 → length bytes < size f → next_of f n dues bytes ≡ None
 next_short f zero dues bytes some short = absurd (some refl)
@@ -103,14 +110,71 @@ pub passes_then : (a c e : List Due) (b d r : List ℕ) → Passes a b c d → P
 passes_then a _ e b _ r stands second = second
 passes_then a c e b d r (moves {more = m} {after = after} is next) second = moves is (passes_then m c e after d r next second)
 
-pub passes_on : (a c e : List Due) (b d r : List ℕ) → Passes a b c d → next c d ≡ leaves e r → Passes a b e r
-passes_on a c e b d r first is = passes_then a c e b d r first (moves is stands)
-
 pub passes_same : (a c e : List Due) (b d : List ℕ) → Passes a b c d → e ≡ c → Passes a b e d
 passes_same a c e b d first is = subst (λ l. Passes a b l d) (sym is) first
 
 pub passes_none : (a : List Due) (b : List ℕ) → Passes a b a b
 passes_none a b = stands
+
+-- so many that stand alone, and all their bytes
+pub passes_all : (f : Form) (n : ℕ) (dues : List Due) (bytes : List ℕ) → ((front : List ℕ) → (follow f front).count ≡ 0) → size f * n ≤ length bytes →
+    Passes (due f n ∷ dues) bytes dues (drop (size f * n) bytes)
+passes_all f zero dues bytes alone enough =
+    let same : size f * zero ≡ 0 = omega arith in
+    subst (λ k. Passes (due f zero ∷ dues) bytes dues (drop k bytes)) (sym same) (passes_no_more (due f zero) dues bytes refl)
+passes_all f (suc n) dues bytes alone enough =
+    let front = take (size f) bytes in
+    let after = drop (size f) bytes in
+    let each : size f * suc n ≡ size f + size f * n = omega arith in
+    let many : length after ≡ length bytes - size f = length-drop (size f) bytes in
+    let others : Passes (due f n ∷ dues) after dues (drop (size f * n) after) = passes_all f n dues after alone (omega (arith, each, many, enough)) in
+    let behind : drop (size f * n) after ≡ drop (size f * suc n) bytes = drop-drop (size f * n) (size f) bytes ∙ ap (λ k. drop k bytes) (sym each) in
+    passes_then (due f (suc n) ∷ dues) (follow f front ∷ due f n ∷ dues) dues bytes after (drop (size f * suc n) bytes)
+    (passes_one f n dues bytes front after (omega (arith, each, enough)) refl refl)
+    (moves (no_more (follow f front) (due f n ∷ dues) after (alone front)) (subst (λ l. Passes (due f n ∷ dues) after dues l) behind others))
+
+-- ---- in the code, where the first is taken out and put back
+
+pub passes_popped : (all popped : List Due) (d : Due) (bytes : List ℕ) → all ≡ d ∷ popped → d.count ≡ 0 → Passes all bytes popped bytes
+passes_popped all popped d bytes is none = subst (λ l. Passes l bytes popped bytes) (sym is) (passes_no_more d popped bytes none)
+
+pub passes_step : (all popped new : List Due) (d : Due) (bytes rest : List ℕ) → all ≡ d ∷ popped → next (d ∷ popped) bytes ≡ leaves new rest → Passes all bytes new rest
+passes_step all popped new d bytes rest is told = subst (λ l. Passes l bytes new rest) (sym is) (moves told stands)
+
+pub passes_put : (all popped new : List Due) (d : Due) (left : ℕ) (bytes rest : List ℕ) → all ≡ d ∷ popped → new ≡ due d.form left ∷ popped →
+    ((dues : List Due) → Passes (due d.form d.count ∷ dues) bytes (due d.form left ∷ dues) rest) → Passes all bytes new rest
+passes_put all popped new d left bytes rest is put passes = subst (λ l. Passes l bytes new rest) (sym is) (subst (λ l. Passes (d ∷ popped) bytes l rest) (sym put) (passes popped))
+
+-- ---- several at once
+
+pub passes_less : (f : Form) (count left : ℕ) (dues : List Due) (bytes rest after : List ℕ) → 0 < left → Passes (due f count ∷ dues) bytes (due f left ∷ dues) rest →
+    ((n : ℕ) → Passes (due f (suc n) ∷ dues) rest (due f n ∷ dues) after) → Passes (due f count ∷ dues) bytes (due f (left - 1) ∷ dues) after
+passes_less f count zero dues bytes rest after some first next = absurd (omega (arith, some))
+passes_less f count (suc n) dues bytes rest after some first next =
+    let less : suc n - 1 ≡ n = omega arith in
+    subst (λ k. Passes (due f count ∷ dues) bytes (due f k ∷ dues) after) (sym less) (passes_then (due f count ∷ dues) (due f (suc n) ∷ dues) (due f n ∷ dues) bytes rest after first (next n))
+
+pub passes_front_of : (f : Form) (bytes front after rest : List ℕ) (d : Due) → size f ≤ length bytes → front ≡ take (size f) bytes → after ≡ drop (size f) bytes → d ≡ follow f front →
+    ((dues : List Due) → Passes (d ∷ dues) after dues rest) → (n : ℕ) (dues : List Due) → Passes (due f (suc n) ∷ dues) bytes (due f n ∷ dues) rest
+passes_front_of f bytes front after rest d there is_front is_after is next n dues =
+    passes_then (due f (suc n) ∷ dues) (follow f front ∷ due f n ∷ dues) (due f n ∷ dues) bytes after rest (passes_one f n dues bytes front after there is_front is_after)
+    (subst (λ z. Passes (z ∷ due f n ∷ dues) after (due f n ∷ dues) rest) is (next (due f n ∷ dues)))
+
+pub passes_single : (d : Due) (bytes rest : List ℕ) → d.count ≡ 1 → ((n : ℕ) (dues : List Due) → Passes (due d.form (suc n) ∷ dues) bytes (due d.form n ∷ dues) rest) →
+    (dues : List Due) → Passes (d ∷ dues) bytes dues rest
+passes_single d bytes rest one next dues =
+    subst (λ k. Passes (due d.form k ∷ dues) bytes dues rest) (sym one)
+    (passes_then (due d.form 1 ∷ dues) (due d.form 0 ∷ dues) dues bytes rest rest (next 0 dues) (passes_no_more (due d.form 0) dues rest refl))
+
+pub passes_front_one : (f : Form) (bytes front after rest : List ℕ) (d : Due) → size f ≤ length bytes → front ≡ take (size f) bytes → after ≡ drop (size f) bytes → d ≡ follow f front → d.count ≡ 1 →
+    ((n : ℕ) (dues : List Due) → Passes (due d.form (suc n) ∷ dues) after (due d.form n ∷ dues) rest) → (n : ℕ) (dues : List Due) → Passes (due f (suc n) ∷ dues) bytes (due f n ∷ dues) rest
+passes_front_one f bytes front after rest d there is_front is_after is one next =
+    passes_front_of f bytes front after rest d there is_front is_after is (passes_single d after rest one next)
+
+pub passes_alone : (d : Due) (bytes rest : List ℕ) (all : ℕ) → ((front : List ℕ) → (follow d.form front).count ≡ 0) → all ≡ size d.form * d.count → all ≤ length bytes → rest ≡ drop all bytes →
+    (dues : List Due) → Passes (d ∷ dues) bytes dues rest
+passes_alone d bytes rest all alone many there is dues =
+    subst (λ l. Passes (d ∷ dues) bytes dues l) (ap (λ n. drop n bytes) (sym many) ∙ sym is) (passes_all d.form d.count dues bytes alone (subst (λ n. n ≤ length bytes) many there))
 
 meets : (a c u : List Due) (b d v : List ℕ) → Passes a b c d → next c d ≡ None → Passes a b u v → Passes u v c d
 meets a c _ b d _ first last stands = first

@@ -1,21 +1,21 @@
 -- What a run of pieces gives.
-use Rattle.std.proofs.Common.{◌≡◌, ℕ, zero, suc, ◌+◌, ◌-◌, ◌<◌, ◌≤◌, List, [], ◌∷◌, ◌++◌, length, Result, Ok, Err, refl, sym, ap, subst, ◌∙◌, append_assoc, append-nil, arith}
+use Rattle.std.proofs.Common.{◌≡◌, ◌≢◌, ℕ, zero, suc, ◌+◌, ◌-◌, ◌<◌, List, [], ◌∷◌, ◌++◌, length, Result, Ok, Err, refl, sym, ap, subst, ◌∙◌, append_assoc, append-nil, arith}
 use Rattle.std.specs.Prelude.{take, drop, min}
 use Rattle.std.proofs.lemmas.List.{length-append, length-drop, length-take, drop_min, drop_all, take_all}
 use Rattle.std.proofs.Math.Seq.{take-nil}
 use Rattle.px_spelling.specs.declared.fault.WireFault.{WireFault}
-use Rattle.px_spelling.specs.declared.fault.WireFault.TheVariants.{NotAMessage}
-use Rattle.px_wire.specs.Messages.{MessageTree, Spells, message_bytes}
+use Rattle.px_spelling.specs.declared.fault.WireFault.TheVariants.{NotAMessage, NoMemory}
+use Rattle.px_wire.specs.Messages.{MessageTree, Spells}
 use Rattle.px_parts.specs.declared.part.Part.{Part}
 use Rattle.px_parts.specs.declared.part.Part.TheVariants as P
 use Rattle.px_parts.specs.declared.part.Taken.{Taken}
 use Rattle.px_parts.specs.declared.place.Place.{Place}
 use Rattle.px_parts.specs.declared.place.Place.TheVariants.{Start, Over}
 use Rattle.px_parts.specs.Parts.{parts_of, IsReplying}
-use Rattle.px_parts.specs.Stream.{IsStuck, Streams, stays, goes}
-use Rattle.px_parts.specs.Taking.{Waiting, waits, refuses, IsNext, IsFound, IsNoEnd, IsTakenOn, IsTaken}
-use Rattle.px_parts.specs.Laws.{IsWhole, Takes, none, gave, held, joined, taken_of, PartsAreThose}
-use Rattle.px_parts.proofs.Streaming.{streams_end, streams_begin, streams_more, no_further}
+use Rattle.px_parts.specs.Stream.{Streams, stays}
+use Rattle.px_parts.specs.Taking.{Waiting, waits, refuses, IsNext, IsFound, IsTakenOn, IsTaken}
+use Rattle.px_parts.specs.Laws.{IsWhole, Takes, none, gave, held, joined, taken_of, IsEndAtMost, PartsAreThose}
+use Rattle.px_parts.proofs.Streaming.{streams_end, streams_begin, streams_more, no_further, longer}
 use Rattle.px_parts.proofs.MessageParts.{message_streams}
 use Rattle.px_parts.proofs.PartsMessage.{message_of}
 
@@ -187,5 +187,45 @@ refused n pieces piece parts w v takes taken more many m replying spells =
     let e = streams_begin Start at.place (taken_of n pieces piece) (at.rest ++ take left piece) more (parts ++ []) (parts_of m) here (said_streams m (taken_of n pieces piece ++ more) replying spells) in
     on.0 more (not_taken n pieces piece more many) e.0 e.2
 
+-- all bytes were taken
+no_more_left : (n : ℕ) (pieces : List (List ℕ)) (piece : List ℕ) → length (taken_of n pieces piece) ≡ n → (n - length (joined pieces)) - length piece ≡ 0
+no_more_left n pieces piece all = omega (arith, all, length-take n (joined pieces ++ piece), length-append (joined pieces) piece)
+
+-- where no byte is missing and no part comes, it is the end
+only_end : (p : Place) (bytes : List ℕ) (left : ℕ) (x : Part) (after : Waiting) → left ≡ 0 → IsFound p bytes left x after → (IsWhole x → ⊥) → x ≡ P.End
+only_end p bytes left P.Held after all found partless = absurd (omega (arith, all, found.4))
+only_end p bytes left (P.Head number ticket kinds) after all found partless = absurd (partless tt)
+only_end p bytes left (P.Entry e) after all found partless = absurd (partless tt)
+only_end p bytes left (P.Drop g) after all found partless = absurd (partless tt)
+only_end p bytes left (P.Derivation d) after all found partless = absurd (partless tt)
+only_end p bytes left (P.Large number ticket) after all found partless = absurd (partless tt)
+only_end p bytes left P.End after all found partless = refl
+
+all_were_given : (n : ℕ) (pieces : List (List ℕ)) (piece : List ℕ) (parts : List Part) (w v : Waiting) (answer : Result Taken WireFault) (m : MessageTree) →
+    Takes (waits Start [] n) pieces parts w → IsTaken w piece answer v → length (taken_of n pieces piece) ≡ n → IsReplying m → Spells (taken_of n pieces piece) m → parts_of m ≡ parts → IsEndAtMost answer
+all_were_given n pieces piece parts w v (Ok t) m takes taken all replying spells are =
+    let left = n - length (joined pieces) in
+    let at = started n pieces parts w takes in
+    let on : IsTakenOn at.place at.rest left piece (Ok t) v = answers w v at.place at.rest piece left (Ok t) at.is taken in
+    let bytes = at.rest ++ take left piece in
+    let partless : IsWhole t.part → ⊥ = λ whole.
+    let found = found_whole at.place bytes (left - length piece) t.part v whole on.1 in
+    let more = one_more n pieces piece parts (t.part ∷ []) w at.place found.0 at.rest found.1 at.is at.streams found.2 in
+    let e = streams_end Start found.0 (taken_of n pieces piece) found.1 (parts ++ t.part ∷ []) (parts_of m) more (said_streams m (taken_of n pieces piece) replying spells) in
+    longer parts e.0 t.part (sym are ∙ e.1) in
+    only_end at.place bytes (left - length piece) t.part v (no_more_left n pieces piece all) on.1 partless
+all_were_given n pieces piece parts w v (Err NotAMessage) m takes taken all replying spells are =
+    refused n pieces piece parts w v takes taken [] (ap length (append-nil (taken_of n pieces piece)) ∙ all) m replying (subst (λ l. Spells l m) (sym (append-nil (taken_of n pieces piece))) spells)
+all_were_given n pieces piece parts w v (Err NoMemory) m takes taken all replying spells are = tt
+
+never_late : (n : ℕ) (pieces : List (List ℕ)) (piece : List ℕ) (parts : List Part) (w v : Waiting) (t : Taken) → Takes (waits Start [] n) pieces parts w →
+    IsTaken w piece (Ok t) v → length (taken_of n pieces piece) ≡ n → t.part ≢ P.Held
+never_late n pieces piece parts w v t takes taken all is =
+    let left = n - length (joined pieces) in
+    let at = started n pieces parts w takes in
+    let on : IsTakenOn at.place at.rest left piece (Ok t) v = answers w v at.place at.rest piece left (Ok t) at.is taken in
+    let found = subst (λ y. IsFound at.place (at.rest ++ take left piece) (left - length piece) y v) is on.1 in
+    let over = no_more_left n pieces piece all in absurd (omega (arith, over, found.4))
+
 pub parts_are_those : PartsAreThose
-parts_are_those = record { front = begin; no_further = held_exactly; whole = ended; no_message = refused }
+parts_are_those = record { front = begin; no_further = held_exactly; whole = ended; all_given = all_were_given; none_missing = never_late; no_message = refused }

@@ -1,5 +1,5 @@
 -- What comes at a place is all that is due there, so bytes that were passed over tell whether it may come.
-use Rattle.std.proofs.Common.{◌≡◌, ◌≢◌, ℕ, zero, suc, ◌-◌, ◌≤◌, List, [], ◌∷◌, ◌++◌, length, Option, Some, None, true, false, refl, sym, ap, subst, ◌∙◌, append_assoc, append-nil, arith}
+use Rattle.std.proofs.Common.{◌≡◌, ◌≢◌, ℕ, ◌-◌, ◌≤◌, List, [], ◌∷◌, ◌++◌, length, Option, None, true, false, refl, sym, ap, subst, ◌∙◌, append_assoc, arith}
 use Rattle.std.specs.Prelude.{take, drop}
 use Rattle.std.proofs.lemmas.List.{take_all, length-drop, drop-append-le, length-append, append_cancel_right}
 use Rattle.px_spelling.specs.Numbers.{u8_bytes, u32_bytes, u64_bytes}
@@ -7,15 +7,14 @@ use Rattle.px_spelling.specs.Lists.{list_bytes}
 use Rattle.px_parts.specs.declared.part.Part.{Part}
 use Rattle.px_parts.specs.declared.part.Part.TheVariants as P
 use Rattle.px_parts.specs.declared.place.Place.{Place}
-use Rattle.px_parts.specs.declared.place.Place.TheVariants.{Start, Over}
 use Rattle.px_parts.specs.declared.form.Form.TheVariants as F
 use Rattle.px_parts.specs.declared.form.Due.{Due}
 use Rattle.px_parts.specs.declared.skim.Skim.{Skim}
 use Rattle.px_parts.specs.Parts.{part_bytes, IsHead}
-use Rattle.px_parts.specs.Stream.{Comes, head, entry_count, entry, all_entries, drop_count, a_drop, all_drops, derivation_count, derivation, all_derivations, Arrives, IsStuck}
-use Rattle.px_parts.specs.Forms.{due, next, Passes, stands, moves, dues_at}
+use Rattle.px_parts.specs.Stream.{Comes, head, entry_count, entry, all_entries, drop_count, a_drop, all_drops, derivation_count, derivation, all_derivations, IsStuck}
+use Rattle.px_parts.specs.Forms.{due, next, Passes, stands, dues_at}
 use Rattle.px_parts.specs.Skims.{IsSkim, IsEnded}
-use Rattle.px_parts.proofs.Passing.{passes_more, passes_front, passes_then, one_end, is_rest}
+use Rattle.px_parts.proofs.Passing.{passes_more, passes_then, one_end, is_rest}
 use Rattle.px_parts.proofs.Filling.{IsOne, AreDue, one_fills, last_due, front_then, fixed}
 use Rattle.px_parts.proofs.FormsOf.{word_form, kinds_form, entry_due, drop_due, derivation_due}
 

@@ -1,12 +1,11 @@
 -- From one place to another bytes hold one list of parts.
-use Rattle.std.proofs.Common.{◌≡◌, ℕ, zero, suc, ◌+◌, ◌-◌, ◌<◌, ◌≤◌, List, [], ◌∷◌, ◌++◌, length, Option, Some, None, refl, sym, ap, subst, ◌∙◌, append_assoc, append-nil, arith}
+use Rattle.std.proofs.Common.{◌≡◌, ℕ, ◌+◌, ◌-◌, ◌<◌, List, [], ◌∷◌, ◌++◌, length, Option, Some, None, refl, sym, ap, subst, ◌∙◌, append_assoc, append-nil, arith}
 use Rattle.std.proofs.lemmas.Option.{same_Some}
 use Rattle.std.proofs.lemmas.List.{length-append}
-use Rattle.px_entry.specs.declared.entries.Entry.{Entry}
 use Rattle.px_spelling.specs.Reading.{Reader}
 use Rattle.px_spelling.specs.Numbers.{u32_bytes, u32_at}
-use Rattle.px_spelling.specs.Entries.{entry_bytes}
-use Rattle.px_spelling.specs.Tables.{gap_bytes, most_rows}
+use Rattle.px_spelling.specs.InFull.{entry_bytes, gap_bytes}
+use Rattle.px_spelling.specs.Tables.{most_rows}
 use Rattle.px_spelling.specs.Derivations.{derivation_bytes, derivation_at}
 use Rattle.px_parts.specs.declared.part.Part.{Part}
 use Rattle.px_parts.specs.declared.part.Part.TheVariants as P
@@ -110,7 +109,7 @@ stuck_last p q r bytes rest after parts others (goes {q = s} {after = behind} {m
     let e = stuck_last s q r behind rest after more more' next stuck (moved s s' r behind behind' after more' o.1 o.2 next') in
     (e.0, is ∙ ap (λ l. those x ++ l) e.1 ∙ ap (λ z. those z ++ (more' ++ e.0)) o.0 ∙ sym (append_assoc (those y) more' e.0) ∙ ap (λ l. l ++ e.0) (sym is'))
 
-longer : (parts left : List Part) (x : Part) → parts ≡ (parts ++ x ∷ []) ++ left → ⊥
+pub longer : (parts left : List Part) (x : Part) → parts ≡ (parts ++ x ∷ []) ++ left → ⊥
 longer parts left x is =
     let all : length parts ≡ length (parts ++ x ∷ []) + length left = ap length is ∙ length-append (parts ++ x ∷ []) left in
     let one : length (parts ++ x ∷ []) ≡ length parts + 1 = length-append parts (x ∷ []) in omega arith

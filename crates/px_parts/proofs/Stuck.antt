@@ -1,13 +1,12 @@
 -- Where nothing is read, nothing comes.
-use Rattle.std.proofs.Common.{◌≡◌, ℕ, zero, suc, List, [], ◌∷◌, ◌++◌, Option, Some, None, sym, ap, subst, ◌∙◌}
+use Rattle.std.proofs.Common.{◌≡◌, ℕ, suc, List, ◌++◌, Some, None, sym, ap, ◌∙◌}
 use Rattle.px_spelling.specs.Reading.{Reader}
 use Rattle.px_spelling.specs.Numbers.{u32_at}
 use Rattle.px_spelling.specs.Tables.{most_rows}
 use Rattle.px_spelling.specs.Derivations.{derivation_at}
-use Rattle.px_parts.specs.declared.place.Place.{Place}
 use Rattle.px_parts.specs.declared.place.Place.TheVariants.{Start, EntryCount, Entries, DropCount, Drops, DerivationCount, Derivations, Over}
 use Rattle.px_parts.specs.Reading.{head_at, count_at, own_entry_at, own_drop_at}
-use Rattle.px_parts.specs.Stream.{Comes, head, entry_count, entry, all_entries, drop_count, a_drop, all_drops, derivation_count, derivation, all_derivations, Arrives, IsStuck}
+use Rattle.px_parts.specs.Stream.{head, entry_count, entry, drop_count, a_drop, derivation_count, derivation, IsStuck}
 use Rattle.px_spelling.proofs.RoundTrip.{ReadsAs, u32_round_trip}
 use Rattle.px_spelling.proofs.DerivationRoundTrips.{derivation_round_trip}
 use Rattle.px_parts.proofs.ComesReads.{head_reads, count_reads, entry_reads, drop_reads}

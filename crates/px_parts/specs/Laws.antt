@@ -1,6 +1,7 @@
 -- The parts that pieces give are those of the message.
-use Rattle.std.specs.Prelude.{◌≡◌, ℕ, List, [], ◌∷◌, ◌++◌, length, take, drop, Ok, Err, ⊤}
-use Rattle.px_spelling.specs.declared.fault.WireFault.TheVariants.{NotAMessage}
+use Rattle.std.specs.Prelude.{◌≡◌, ◌≢◌, ℕ, List, [], ◌∷◌, ◌++◌, length, take, drop, Result, Ok, Err, ⊤}
+use Rattle.px_spelling.specs.declared.fault.WireFault.{WireFault}
+use Rattle.px_spelling.specs.declared.fault.WireFault.TheVariants.{NotAMessage, NoMemory}
 use Rattle.px_wire.specs.Messages.{MessageTree, Spells}
 use Rattle.px_parts.specs.declared.part.Part.{Part}
 use Rattle.px_parts.specs.declared.part.Part.TheVariants as P
@@ -9,7 +10,7 @@ use Rattle.px_parts.specs.declared.place.Place.{Place}
 use Rattle.px_parts.specs.declared.place.Place.TheVariants.{Start}
 use Rattle.px_parts.specs.Parts.{parts_of, IsReplying}
 use Rattle.px_parts.specs.Stream.{Streams}
-use Rattle.px_parts.specs.Taking.{Waiting, waits, refuses, IsTaken}
+use Rattle.px_parts.specs.Taking.{Waiting, waits, IsTaken}
 
 -- a part of a message
 abbrev pub IsWhole : Part → Type 0
@@ -39,6 +40,12 @@ joined (piece ∷ pieces) = piece ++ joined pieces
 abbrev pub taken_of : ℕ → List (List ℕ) → List ℕ → List ℕ
 taken_of n pieces piece = take n (joined pieces ++ piece)
 
+-- an answer that is the end, unless memory ran out
+abbrev pub IsEndAtMost : Result Taken WireFault → Type 0
+IsEndAtMost (Ok t) = t.part ≡ P.End
+IsEndAtMost (Err NotAMessage) = ⊥
+IsEndAtMost (Err NoMemory) = ⊤
+
 -- Of a new reader that is handed in pieces, and then one more:
 pub record PartsAreThose : Type 0 where
   -- each message that begins with the bytes begins with the parts
@@ -50,6 +57,12 @@ pub record PartsAreThose : Type 0 where
   -- at the end they are a message, of which these are all parts
   pub whole : (n : ℕ) (pieces : List (List ℕ)) (piece : List ℕ) (parts : List Part) (w v : Waiting) (t : Taken) → Takes (waits Start [] n) pieces parts w →
       IsTaken w piece (Ok t) v → t.part ≡ P.End → (m : MessageTree) × IsReplying m × Spells (taken_of n pieces piece) m × (parts_of m ≡ parts)
+  -- and where no byte is missing, they are a message, and these are all its parts, it is the end
+  pub all_given : (n : ℕ) (pieces : List (List ℕ)) (piece : List ℕ) (parts : List Part) (w v : Waiting) (answer : Result Taken WireFault) (m : MessageTree) →
+      Takes (waits Start [] n) pieces parts w → IsTaken w piece answer v → length (taken_of n pieces piece) ≡ n → IsReplying m → Spells (taken_of n pieces piece) m → parts_of m ≡ parts → IsEndAtMost answer
+  -- where no byte is missing, it doesn't wait for more
+  pub none_missing : (n : ℕ) (pieces : List (List ℕ)) (piece : List ℕ) (parts : List Part) (w v : Waiting) (t : Taken) → Takes (waits Start [] n) pieces parts w →
+      IsTaken w piece (Ok t) v → length (taken_of n pieces piece) ≡ n → t.part ≢ P.Held
   -- where they are refused, no message of that length begins with them
   pub no_message : (n : ℕ) (pieces : List (List ℕ)) (piece : List ℕ) (parts : List Part) (w v : Waiting) → Takes (waits Start [] n) pieces parts w →
       IsTaken w piece (Err NotAMessage) v → (more : List ℕ) → length (taken_of n pieces piece ++ more) ≡ n → (m : MessageTree) → IsReplying m → ¬ Spells (taken_of n pieces piece ++ more) m

@@ -4,8 +4,7 @@ use Rattle.px_entry.specs.declared.tables.Table.{Table}
 use Rattle.px_entry.specs.declared.derivations.Derivation.{Derivation}
 use Rattle.px_spelling.specs.Numbers.{u8_bytes, IsU8, u64_bytes, IsU64}
 use Rattle.px_spelling.specs.Lists.{list_bytes, IsList, any_number}
-use Rattle.px_spelling.specs.Entries.{entry_bytes}
-use Rattle.px_spelling.specs.Tables.{gap_bytes}
+use Rattle.px_spelling.specs.InFull.{entry_bytes, gap_bytes}
 use Rattle.px_spelling.specs.Derivations.{derivation_bytes}
 use Rattle.px_wire.specs.JobRanges.{rises}
 use Rattle.px_wire.specs.Messages.{MessageTree, request, reply, large, version}

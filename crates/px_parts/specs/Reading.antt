@@ -1,11 +1,10 @@
 -- What is read at each place.
-use Rattle.std.specs.Prelude.{ℕ, List, ◌==◌, if◌then◌else◌, nat_le}
+use Rattle.std.specs.Prelude.{ℕ, ◌==◌, if◌then◌else◌, nat_le}
 use Rattle.px_entry.specs.declared.entries.Entry.{Entry}
 use Rattle.px_entry.specs.declared.tables.Gap.{Gap}
 use Rattle.px_spelling.specs.Reading.{Reader, ◌>>=◌, ◌<*>◌, done, nothing}
 use Rattle.px_spelling.specs.Numbers.{u8_at, u32_at, u64_at}
-use Rattle.px_spelling.specs.Entries.{entry_at}
-use Rattle.px_spelling.specs.Tables.{gap_at}
+use Rattle.px_spelling.specs.InFull.{entry_at, gap_at}
 use Rattle.px_wire.specs.TableRanges.{entry_within, gap_within}
 use Rattle.px_wire.specs.Jobs.{only_if}
 use Rattle.px_wire.specs.Messages.{any_types, version}

@@ -4,8 +4,8 @@ use Rattle.px_entry.specs.declared.entries.Entry.{Entry}
 use Rattle.px_entry.specs.declared.tables.Gap.{Gap}
 use Rattle.px_entry.specs.declared.derivations.Derivation.{Derivation}
 use Rattle.px_spelling.specs.Numbers.{u32_bytes, IsU32}
-use Rattle.px_spelling.specs.Entries.{entry_bytes, IsEntry}
-use Rattle.px_spelling.specs.Tables.{gap_bytes, IsGap, most_rows}
+use Rattle.px_spelling.specs.InFull.{entry_bytes, IsEntry, gap_bytes, IsGap}
+use Rattle.px_spelling.specs.Tables.{most_rows}
 use Rattle.px_spelling.specs.Derivations.{derivation_bytes, IsDerivation}
 use Rattle.px_wire.specs.TableRanges.{entry_within, gap_within}
 use Rattle.px_wire.specs.Messages.{any_types}

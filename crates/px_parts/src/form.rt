@@ -1,4 +1,4 @@
-ghost use Rattle.std.specs.Prelude.{◌≡◌, ◌<◌};
+ghost use Rattle.std.specs.Prelude.{◌≡◌, ◌<◌, ℕ, List, true};
 ghost use Rattle.px_parts.specs.declared.form.Form.TheVariants as at;
 ghost use Rattle.px_parts.specs.Forms.{size, due, due_only_at, tag_in, count_in, follow_by, follow};
 
@@ -75,6 +75,16 @@ pub(crate) fn size_of(form: Form) -> usize
         | Form::Cause
         | Form::Step => 1,
         _ => 4,
+    }
+}
+
+/// Whether nothing follows the front of a form, whatever its bytes are.
+pub(crate) fn stands_alone(form: Form) -> bool
+    ensures { result ≡ true → (front : List ℕ) → (follow form front).count ≡ 0 }
+{
+    match form {
+        Form::Byte | Form::Word | Form::Site | Form::Failure | Form::Call => true,
+        _ => false,
     }
 }
 

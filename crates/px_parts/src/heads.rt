@@ -2,8 +2,7 @@ ghost use Rattle.std.specs.Prelude.{◌≡◌, ◌++◌, ◌∷◌, ◌≤◌, t
 ghost use Rattle.px_spelling.specs.Reading.{Gives};
 ghost use Rattle.px_spelling.specs.Numbers.{u8_bytes, u32_bytes, IsU8, IsU32};
 ghost use Rattle.px_spelling.specs.Lists.{list_bytes, IsList, any_number};
-ghost use Rattle.px_spelling.specs.Entries.{entry_bytes, IsEntry};
-ghost use Rattle.px_spelling.specs.Tables.{gap_bytes, IsGap};
+ghost use Rattle.px_spelling.specs.InFull.{entry_bytes, IsEntry, gap_bytes, IsGap};
 ghost use Rattle.px_wire.specs.Messages.{any_types};
 ghost use Rattle.px_wire.specs.JobRanges.{rises};
 ghost use Rattle.px_wire.specs.TableRanges.{entry_within, gap_within};
@@ -13,7 +12,7 @@ ghost use Rattle.px_parts.specs.Reading.{reply_head_at, large_head_at, head_at, 
 
 use crate::Part;
 use px_entry::{Entry, Gap};
-use px_spelling::{Wire, WireFault, read_items};
+use px_spelling::{InFull, Wire, WireFault, WireWith, read_items};
 use px_terms::Items;
 use px_wire::{ANY_TYPES, VERSION, do_kinds_rise, is_drop_within, is_entry_within};
 use std::alloc::Global;
@@ -97,7 +96,7 @@ pub(crate) fn read_entry(alloc: Global, bytes: &[u8]) -> Result<(Entry, &[u8]), 
     ensures reads { Gives (λ x. (x.0, x.1.now)) result (own_entry_at bytes.now) }
     ensures spelled { IfOk result (λ x. (bytes.now ≡ entry_bytes x.0 ++ x.1.now) × IsEntry x.0 × (entry_within any_types x.0 ≡ true)) }
 {
-    let (entry, rest) = Entry::read(alloc, bytes)?;
+    let (entry, rest) = Entry::read_with(&InFull, alloc, bytes)?;
     if is_entry_within(ANY_TYPES, &entry) {
         Ok((entry, rest))
     } else {
@@ -111,7 +110,7 @@ pub(crate) fn read_drop(alloc: Global, bytes: &[u8]) -> Result<(Gap, &[u8]), Wir
     ensures reads { Gives (λ x. (x.0, x.1.now)) result (own_drop_at bytes.now) }
     ensures spelled { IfOk result (λ x. (bytes.now ≡ gap_bytes x.0 ++ x.1.now) × IsGap x.0 × (gap_within x.0 ≡ true)) }
 {
-    let (gap, rest) = Gap::read(alloc, bytes)?;
+    let (gap, rest) = Gap::read_with(&InFull, alloc, bytes)?;
     if is_drop_within(&gap) {
         Ok((gap, rest))
     } else {

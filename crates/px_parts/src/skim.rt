@@ -1,11 +1,11 @@
-ghost use Rattle.std.specs.Prelude.{◌≡◌, ◌≢◌, ℕ, List, ◌+◌, ◌*◌, ◌-◌, ◌<◌, ◌≤◌, ◌++◌, ◌∷◌, [], None, Some, length, drop, IfOk, IfSome, IfNone, OnOk};
+ghost use Rattle.std.specs.Prelude.{◌≡◌, ◌≢◌, ℕ, suc, List, ◌+◌, ◌*◌, ◌-◌, ◌<◌, ◌≤◌, ◌++◌, ◌∷◌, [], None, Some, length, drop, IfOk, IfSome, IfNone, OnOk};
 ghost use Rattle.px_parts.specs.declared.skim.Known.TheVariants.{Short, Whole};
 ghost use Rattle.px_parts.specs.Forms.{due, next, Passes, entry_dues, dues_at};
 ghost use Rattle.px_parts.specs.Skims.{IsSkim, IsEnded};
 ghost use Rattle.px_parts.specs.Stream.{IsStuck};
 
 use crate::Place;
-use crate::form::{Due, Form, due_after, size_of};
+use crate::form::{Due, Form, due_after, size_of, stands_alone};
 use px_terms::NoMemory;
 use std::alloc::Global;
 use std::collections::VecDeque;
@@ -98,7 +98,7 @@ fn known_by(dues: &VecDeque<Due>) -> Known
 }
 
 // Passes over as much as there is.
-#[tactic(auto, using(crate::proofs::Passing::passes_on, crate::proofs::Passing::passes_same, crate::proofs::Passing::passes_none))]
+#[tactic(auto, using(crate::proofs::Passing::passes_then, crate::proofs::Passing::passes_same, crate::proofs::Passing::passes_none))]
 fn pass_all<'a>(dues: &mut VecDeque<Due>, bytes: &'a [u8]) -> Result<&'a [u8], NoMemory>
     ensures passes { IfOk result (λ rest. Passes dues.old.items bytes.now dues.new.items rest.now) }
     ensures last { IfOk result (λ rest. next dues.new.items rest.now ≡ None) }
@@ -113,10 +113,10 @@ fn pass_all<'a>(dues: &mut VecDeque<Due>, bytes: &'a [u8]) -> Result<&'a [u8], N
     }
 }
 
-// Passes over the front of the first form, if its bytes are there.
-#[tactic(auto, using(crate::proofs::Passing::no_more))]
+// Passes over as many of the first form as it can at once, or else over the front of one, if its bytes are there.
+#[tactic(auto, using(crate::proofs::Passing::passes_popped, crate::proofs::Passing::passes_step, crate::proofs::Passing::passes_put))]
 fn pass_one<'a>(dues: &mut VecDeque<Due>, bytes: &'a [u8]) -> Result<Option<&'a [u8]>, NoMemory>
-    ensures some { IfOk result (λ o. IfSome o (λ rest. next dues.old.items bytes.now ≡ Some (dues.new.items, rest.now))) }
+    ensures some { IfOk result (λ o. IfSome o (λ rest. Passes dues.old.items bytes.now dues.new.items rest.now)) }
     ensures falls { IfOk result (λ o. IfSome o (λ rest. 2 * length rest.now + length dues.new.items < 2 * length bytes.now + length dues.old.items)) }
     ensures fewer { IfOk result (λ o. IfSome o (λ rest. length rest.now ≤ length bytes.now)) }
     ensures none { IfOk result (λ o. IfNone o (next dues.new.items bytes.now ≡ None)) }
@@ -128,9 +128,90 @@ fn pass_one<'a>(dues: &mut VecDeque<Due>, bytes: &'a [u8]) -> Result<Option<&'a 
             if first.count == 0 {
                 return Ok(Some(bytes));
             }
+            let (left, rest) = pass_many(first.form, first.count, bytes);
+            if left < first.count {
+                dues.push_front(Due {
+                    form: first.form,
+                    count: left,
+                })?;
+                return Ok(Some(rest));
+            }
             pass_first(dues, first, bytes)
         }
     }
+}
+
+// Passes over so many of a form, as far as each is there and no more is due in it than two fronts. Says how many are left.
+#[tactic(auto, using(crate::proofs::Passing::passes_none))]
+fn pass_many(form: Form, count: u32, bytes: &[u8]) -> (u32, &[u8])
+    ensures passes { (dues : List Due) → Passes (due form count ∷ dues) bytes.now (due form result.0 ∷ dues) result.1.now }
+    ensures fewer { length result.1.now ≤ length bytes.now }
+    ensures shorter { result.0 < count → length result.1.now < length bytes.now }
+{
+    let mut left = count;
+    let mut rest = bytes;
+    while left > 0 {
+        let Some(after) = behind_one(form, rest) else {
+            return (left, rest);
+        };
+        rest = after;
+        left -= 1;
+    }
+    (left, rest)
+}
+
+// The bytes behind one of a form, where they are there and no more is due in it than two fronts.
+#[tactic(auto, using(crate::proofs::Passing::passes_front_of, crate::proofs::Passing::passes_front_one))]
+fn behind_one(form: Form, bytes: &[u8]) -> Option<&[u8]>
+    ensures passes { IfSome result (λ rest. (n : ℕ) (dues : List Due) → Passes (due form (suc n) ∷ dues) bytes.now (due form n ∷ dues) rest.now) }
+    ensures shorter { IfSome result (λ rest. length rest.now < length bytes.now) }
+{
+    let size = size_of(form);
+    if bytes.len() < size {
+        return None;
+    }
+    let (front, after) = bytes.split_at(size);
+    let due = due_after(form, front);
+    if due.count == 1 {
+        behind_front(due.form, after)
+    } else {
+        behind_alone(due, after)
+    }
+}
+
+// The bytes behind one of a form, where they are there and what is due in it stands alone.
+#[tactic(auto, using(crate::proofs::Passing::passes_front_of))]
+fn behind_front(form: Form, bytes: &[u8]) -> Option<&[u8]>
+    ensures passes { IfSome result (λ rest. (n : ℕ) (dues : List Due) → Passes (due form (suc n) ∷ dues) bytes.now (due form n ∷ dues) rest.now) }
+    ensures shorter { IfSome result (λ rest. length rest.now < length bytes.now) }
+{
+    let size = size_of(form);
+    if bytes.len() < size {
+        return None;
+    }
+    let (front, after) = bytes.split_at(size);
+    behind_alone(due_after(form, front), after)
+}
+
+// The bytes behind what is due, where they are there and each stands alone.
+#[tactic(auto, using(crate::proofs::Passing::passes_no_more))]
+fn behind_alone(due: Due, bytes: &[u8]) -> Option<&[u8]>
+    ensures passes { IfSome result (λ rest. (dues : List Due) → Passes (due ∷ dues) bytes.now dues rest.now) }
+    ensures fewer { IfSome result (λ rest. length rest.now ≤ length bytes.now) }
+{
+    if due.count == 0 {
+        return Some(bytes);
+    }
+    if !stands_alone(due.form) {
+        return None;
+    }
+    let Some(all) = size_of(due.form).checked_mul(due.count as usize) else {
+        return None;
+    };
+    if all > bytes.len() {
+        return None;
+    }
+    Some(&bytes[all..])
 }
 
 // The same, where the first was taken out, and there is one.

@@ -114,14 +114,15 @@ fn hold(alloc: Global, unread: &mut Unread, bytes: &[u8]) -> Result<(), WireFaul
     if bytes.is_empty() {
         return Ok(());
     }
-    let_go(alloc, unread)?;
+    make_room(alloc, unread, bytes.len())?;
     unread.held.extend_from_slice(bytes)?;
     Ok(())
 }
 
-// Lets go the bytes of parts that were given.
+// Makes room for so many bytes more, and for as many again as are held, but for no more than are to come. The bytes of parts that
+// were given are let go.
 #[tactic(auto, using(crate::proofs::Holding::skim_same))]
-fn let_go(alloc: Global, unread: &mut Unread) -> Result<(), WireFault>
+fn make_room(alloc: Global, unread: &mut Unread, more: usize) -> Result<(), WireFault>
     requires within { unread.old.start ≤ length unread.old.held.items }
     requires skim { IsSkim unread.old.place (held_in unread.old) unread.old.skim }
     ensures within { unread.new.start ≤ length unread.new.held.items }
@@ -134,6 +135,11 @@ fn let_go(alloc: Global, unread: &mut Unread) -> Result<(), WireFault>
     if unread.start > 0 {
         unread.held = Vec::from_slice(alloc, &unread.held[unread.start..])?;
         unread.start = 0;
+    }
+    let count = unread.held.len();
+    if unread.held.capacity().saturating_sub(count) < more {
+        let again = count.min(unread.left as usize);
+        unread.held.reserve_exact(more.max(again))?;
     }
     Ok(())
 }

@@ -11,3 +11,4 @@ pub mod DerivationRoundTrips
 pub mod TableRoundTrips
 pub mod OperandRoundTrips
 pub mod CalleeRoundTrips
+pub mod InFullRoundTrips

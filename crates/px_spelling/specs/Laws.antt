@@ -3,7 +3,7 @@ use Rattle.std.specs.Prelude.{◌≡◌, ℕ, List, ◌++◌, Some}
 use Rattle.px_spelling.specs.Reading.{Reader}
 use Rattle.px_spelling.specs.Traces.{proc_id_bytes, IsProcId, proc_id_at, site_bytes, IsSite, site_at}
 use Rattle.px_spelling.specs.Types.{value_type_bytes, IsValueType, value_type_at, block_type_bytes, IsBlockType, block_type_at}
-use Rattle.px_spelling.specs.Polynomials.{polynomial_bytes, IsPolynomialInRange, polynomial_at}
+use Rattle.px_spelling.specs.Polynomials.{polynomial_bytes, IsPolynomialInRange, polynomial_at, PolynomialSpelling}
 use Rattle.px_spelling.specs.Entries.{entry_bytes, IsEntry, entry_at}
 use Rattle.px_spelling.specs.Tables.{table_bytes, IsTable, table_at}
 use Rattle.px_spelling.specs.Derivations.{derivation_bytes, IsDerivation, derivation_at}
@@ -20,10 +20,17 @@ pub record WrittenIsRead : Type 0 where
   pub value_types : HasRoundTrip value_type_bytes IsValueType value_type_at
   pub block_types : HasRoundTrip block_type_bytes IsBlockType block_type_at
   pub polynomials : HasRoundTrip polynomial_bytes IsPolynomialInRange polynomial_at
-  pub entries : HasRoundTrip entry_bytes IsEntry entry_at
-  pub tables : HasRoundTrip table_bytes IsTable table_at
   pub derivations : HasRoundTrip derivation_bytes IsDerivation derivation_at
   pub operands : HasRoundTrip operand_bytes IsOperand operand_at
   pub operators : HasRoundTrip operator_bytes IsOperator operator_at
   pub comparisons : HasRoundTrip comparison_bytes IsComparison comparison_at
-  pub callees : HasRoundTrip callee_bytes IsCallee callee_at
+
+-- polynomials have theirs in this spelling of them
+abbrev pub AreReadAgain : PolynomialSpelling → Type 0
+AreReadAgain p = HasRoundTrip p.bytes_of p.fits p.at
+
+-- what holds polynomials has its own in this spelling of them
+pub record HoldersAreRead (p : PolynomialSpelling) : Type 0 where
+  pub entries : HasRoundTrip (entry_bytes p) (IsEntry p) (entry_at p)
+  pub tables : HasRoundTrip (table_bytes p) (IsTable p) (table_at p)
+  pub callees : HasRoundTrip (callee_bytes p) (IsCallee p) (callee_at p)

@@ -10,4 +10,5 @@ pub mod Derivations
 pub mod Tables
 pub mod Operands
 pub mod Callees
+pub mod InFull
 pub mod Laws

@@ -61,3 +61,19 @@ monomials_at constant = list_at term_at most_monomials >>= polynomial_with const
 
 unfoldable pub polynomial_at : Reader Polynomial
 polynomial_at = u32_at >>= monomials_at
+
+-- ---- what holds polynomials
+
+-- how polynomials are spelled in what holds them: their bytes, those that have a spelling, and what is read
+pub record PolynomialSpelling : Type 1 where
+  pub bytes_of : Polynomial → List ℕ
+  pub fits : Polynomial → Type 0
+  pub at : Reader Polynomial
+
+-- each in full
+abbrev pub in_full : PolynomialSpelling
+in_full = record { bytes_of = polynomial_bytes; fits = IsPolynomialInRange; at = polynomial_at }
+
+-- none
+abbrev pub no_polynomials : PolynomialSpelling
+no_polynomials = record { bytes_of = λ p. []; fits = λ p. ⊥; at = nothing }

@@ -1,22 +1,22 @@
 ghost use Rattle.px_spelling.specs.Callees.{callee_bytes, IsCallee, callee_at};
 
-use crate::{Output, Wire, WireFault};
+use crate::{Output, Terms, Wire, WireFault, WireWith};
 use px_callgraph::Callee;
 use px_entry::Table;
 use std::alloc::Global;
 
-impl Wire for Callee {
-    ghost bytes_of = { callee_bytes };
+impl WireWith for Callee {
+    ghost bytes_with = { callee_bytes };
 
-    ghost fits = { IsCallee };
+    ghost fits_with = { IsCallee };
 
-    ghost at = { callee_at };
+    ghost at_with = { callee_at };
 
-    fn write<O: Output>(&self, out: &mut O, target: &mut O::Target) {
+    fn write_with<S: Terms, O: Output>(&self, terms: &S, out: &mut O, target: &mut O::Target) {
         match self {
             Callee::Table(table) => {
                 0u8.write(out, target);
-                table.write(out, target)
+                table.write_with(terms, out, target)
             }
             Callee::Cycle => 1u8.write(out, target),
             Callee::LeftOut => 2u8.write(out, target),
@@ -25,11 +25,15 @@ impl Wire for Callee {
     }
 
     #[tactic(auto, unfolding(crate::specs::Callees::callee_at, crate::specs::Callees::callee_with))]
-    fn read(alloc: Global, bytes: &[u8]) -> Result<(Callee, &[u8]), WireFault> {
+    fn read_with<'a, S: Terms>(
+        terms: &S,
+        alloc: Global,
+        bytes: &'a [u8],
+    ) -> Result<(Callee, &'a [u8]), WireFault> {
         let (tag, rest) = u8::read(alloc, bytes)?;
         match tag {
             0 => {
-                let (table, rest) = Table::read(alloc, rest)?;
+                let (table, rest) = Table::read_with(terms, alloc, rest)?;
                 Ok((Callee::Table(table), rest))
             }
             1 => Ok((Callee::Cycle, rest)),
@@ -39,9 +43,9 @@ impl Wire for Callee {
         }
     }
 
-    fn is_in_range(&self) -> bool {
+    fn is_in_range_with<S: Terms>(&self, terms: &S) -> bool {
         match self {
-            Callee::Table(table) => table.is_in_range(),
+            Callee::Table(table) => table.is_in_range_with(terms),
             Callee::Cycle | Callee::LeftOut | Callee::Unknown => true,
         }
     }

@@ -1,9 +1,8 @@
 ghost use Rattle.std.specs.Prelude.{◌≡◌, ◌++◌};
 ghost use Rattle.px_spelling.specs.Types.{var_bytes};
-ghost use Rattle.px_spelling.specs.Polynomials.{polynomial_bytes};
 ghost use Rattle.px_spelling.specs.Conjuncts.{place_bytes, IsPlace, place_at, content_bytes, IsContent, content_at, conj_bytes, IsConj, conj_at};
 
-use crate::{Output, Wire, WireFault};
+use crate::{Output, Terms, Wire, WireFault, WireWith};
 use px_terms::{Conj, Content, Place, Poly, Var};
 use std::alloc::Global;
 
@@ -45,19 +44,19 @@ impl Wire for Place {
     }
 }
 
-impl Wire for Content {
-    ghost bytes_of = { content_bytes };
+impl WireWith for Content {
+    ghost bytes_with = { content_bytes };
 
-    ghost fits = { IsContent };
+    ghost fits_with = { IsContent };
 
-    ghost at = { content_at };
+    ghost at_with = { content_at };
 
-    fn write<O: Output>(&self, out: &mut O, target: &mut O::Target) {
+    fn write_with<S: Terms, O: Output>(&self, terms: &S, out: &mut O, target: &mut O::Target) {
         match self {
             Content::Unwritten => 0u8.write(out, target),
             Content::Word(word) => {
                 1u8.write(out, target);
-                word.write(out, target)
+                terms.write_polynomial(word, out, target)
             }
             Content::Place(place) => {
                 2u8.write(out, target);
@@ -71,12 +70,16 @@ impl Wire for Content {
     }
 
     #[tactic(auto, unfolding(crate::specs::Conjuncts::content_at, crate::specs::Conjuncts::content_with))]
-    fn read(alloc: Global, bytes: &[u8]) -> Result<(Content, &[u8]), WireFault> {
+    fn read_with<'a, S: Terms>(
+        terms: &S,
+        alloc: Global,
+        bytes: &'a [u8],
+    ) -> Result<(Content, &'a [u8]), WireFault> {
         let (tag, rest) = u8::read(alloc, bytes)?;
         match tag {
             0 => Ok((Content::Unwritten, rest)),
             1 => {
-                let (word, rest) = Poly::read(alloc, rest)?;
+                let (word, rest) = terms.read_polynomial(alloc, rest)?;
                 Ok((Content::Word(word), rest))
             }
             2 => {
@@ -91,58 +94,104 @@ impl Wire for Content {
         }
     }
 
-    fn is_in_range(&self) -> bool {
+    fn is_in_range_with<S: Terms>(&self, terms: &S) -> bool {
         match self {
             Content::Unwritten => true,
-            Content::Word(word) => word.is_in_range(),
+            Content::Word(word) => terms.is_in_range(word),
             Content::Place(place) => place.is_in_range(),
             Content::Cell(var) => var.is_in_range(),
         }
     }
 }
 
+impl WireWith for Option<Content> {
+    ghost use Rattle.std.specs.Prelude.{IfSome};
+    ghost use Rattle.px_spelling.specs.Lists.{option_bytes, option_at};
+
+    ghost bytes_with = { λ p. option_bytes (content_bytes p) };
+
+    ghost fits_with = { λ p o. IfSome o (IsContent p) };
+
+    ghost at_with = { λ p. option_at (content_at p) };
+
+    fn write_with<S: Terms, O: Output>(&self, terms: &S, out: &mut O, target: &mut O::Target) {
+        match self {
+            None => 0u8.write(out, target),
+            Some(content) => {
+                1u8.write(out, target);
+                content.write_with(terms, out, target)
+            }
+        }
+    }
+
+    #[tactic(auto, unfolding(crate::specs::Lists::option_at, crate::specs::Lists::option_with))]
+    fn read_with<'a, S: Terms>(
+        terms: &S,
+        alloc: Global,
+        bytes: &'a [u8],
+    ) -> Result<(Option<Content>, &'a [u8]), WireFault> {
+        let (tag, rest) = u8::read(alloc, bytes)?;
+        match tag {
+            0 => Ok((None, rest)),
+            1 => {
+                let (content, rest) = Content::read_with(terms, alloc, rest)?;
+                Ok((Some(content), rest))
+            }
+            _ => Err(WireFault::NotAMessage),
+        }
+    }
+
+    fn is_in_range_with<S: Terms>(&self, terms: &S) -> bool {
+        match self {
+            None => true,
+            Some(content) => content.is_in_range_with(terms),
+        }
+    }
+}
+
 // Puts the parts of a quotient after others.
-fn write_quotient<O: Output>(
+fn write_quotient<S: Terms, O: Output>(
+    terms: &S,
     var: Var,
     left: &Poly,
     right: &Poly,
     out: &mut O,
     target: &mut O::Target,
 )
-    ensures written { O.written out.new ≡ O.written out.old ++ (var_bytes var ++ polynomial_bytes left.now ++ polynomial_bytes right.now) }
+    ensures written { O.written out.new ≡ O.written out.old ++ (var_bytes var ++ (S.spelling terms.now).bytes_of left.now ++ (S.spelling terms.now).bytes_of right.now) }
     ensures reached { (from : O.Target) → O.reaches from out.old target.old → O.reaches from out.new target.new }
 {
     var.write(out, target);
-    left.write(out, target);
-    right.write(out, target)
+    terms.write_polynomial(left, out, target);
+    terms.write_polynomial(right, out, target)
 }
 
-impl Wire for Conj {
-    ghost bytes_of = { conj_bytes };
+impl WireWith for Conj {
+    ghost bytes_with = { conj_bytes };
 
-    ghost fits = { IsConj };
+    ghost fits_with = { IsConj };
 
-    ghost at = { conj_at };
+    ghost at_with = { conj_at };
 
-    fn write<O: Output>(&self, out: &mut O, target: &mut O::Target) {
+    fn write_with<S: Terms, O: Output>(&self, terms: &S, out: &mut O, target: &mut O::Target) {
         match self {
             Conj::Equal(difference) => {
                 0u8.write(out, target);
-                difference.write(out, target)
+                terms.write_polynomial(difference, out, target)
             }
             Conj::Unequal(difference) => {
                 1u8.write(out, target);
-                difference.write(out, target)
+                terms.write_polynomial(difference, out, target)
             }
             Conj::Less(left, right) => {
                 2u8.write(out, target);
-                left.write(out, target);
-                right.write(out, target)
+                terms.write_polynomial(left, out, target);
+                terms.write_polynomial(right, out, target)
             }
             Conj::AtMost(left, right) => {
                 3u8.write(out, target);
-                left.write(out, target);
-                right.write(out, target)
+                terms.write_polynomial(left, out, target);
+                terms.write_polynomial(right, out, target)
             }
             Conj::SamePlace(left, right) => {
                 4u8.write(out, target);
@@ -164,31 +213,35 @@ impl Wire for Conj {
             }
             Conj::Quotient(var, left, right) => {
                 8u8.write(out, target);
-                write_quotient(*var, left, right, out, target)
+                write_quotient(terms, *var, left, right, out, target)
             }
         }
     }
 
     #[tactic(auto, unfolding(crate::specs::Conjuncts::conj_at, crate::specs::Conjuncts::conj_with))]
-    fn read(alloc: Global, bytes: &[u8]) -> Result<(Conj, &[u8]), WireFault> {
+    fn read_with<'a, S: Terms>(
+        terms: &S,
+        alloc: Global,
+        bytes: &'a [u8],
+    ) -> Result<(Conj, &'a [u8]), WireFault> {
         let (tag, rest) = u8::read(alloc, bytes)?;
         match tag {
             0 => {
-                let (difference, rest) = Poly::read(alloc, rest)?;
+                let (difference, rest) = terms.read_polynomial(alloc, rest)?;
                 Ok((Conj::Equal(difference), rest))
             }
             1 => {
-                let (difference, rest) = Poly::read(alloc, rest)?;
+                let (difference, rest) = terms.read_polynomial(alloc, rest)?;
                 Ok((Conj::Unequal(difference), rest))
             }
             2 => {
-                let (left, rest) = Poly::read(alloc, rest)?;
-                let (right, rest) = Poly::read(alloc, rest)?;
+                let (left, rest) = terms.read_polynomial(alloc, rest)?;
+                let (right, rest) = terms.read_polynomial(alloc, rest)?;
                 Ok((Conj::Less(left, right), rest))
             }
             3 => {
-                let (left, rest) = Poly::read(alloc, rest)?;
-                let (right, rest) = Poly::read(alloc, rest)?;
+                let (left, rest) = terms.read_polynomial(alloc, rest)?;
+                let (right, rest) = terms.read_polynomial(alloc, rest)?;
                 Ok((Conj::AtMost(left, right), rest))
             }
             4 => {
@@ -211,26 +264,26 @@ impl Wire for Conj {
             }
             8 => {
                 let (var, rest) = Var::read(alloc, rest)?;
-                let (left, rest) = Poly::read(alloc, rest)?;
-                let (right, rest) = Poly::read(alloc, rest)?;
+                let (left, rest) = terms.read_polynomial(alloc, rest)?;
+                let (right, rest) = terms.read_polynomial(alloc, rest)?;
                 Ok((Conj::Quotient(var, left, right), rest))
             }
             _ => Err(WireFault::NotAMessage),
         }
     }
 
-    fn is_in_range(&self) -> bool {
+    fn is_in_range_with<S: Terms>(&self, terms: &S) -> bool {
         match self {
-            Conj::Equal(difference) | Conj::Unequal(difference) => difference.is_in_range(),
+            Conj::Equal(difference) | Conj::Unequal(difference) => terms.is_in_range(difference),
             Conj::Less(left, right) | Conj::AtMost(left, right) => {
-                left.is_in_range() && right.is_in_range()
+                terms.is_in_range(left) && terms.is_in_range(right)
             }
             Conj::SamePlace(left, right) | Conj::OtherPlace(left, right) => {
                 left.is_in_range() && right.is_in_range()
             }
             Conj::Written(var) | Conj::Unwritten(var) => var.is_in_range(),
             Conj::Quotient(var, left, right) => {
-                var.is_in_range() && left.is_in_range() && right.is_in_range()
+                var.is_in_range() && terms.is_in_range(left) && terms.is_in_range(right)
             }
         }
     }

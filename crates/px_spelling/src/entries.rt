@@ -1,35 +1,42 @@
 ghost use Rattle.px_spelling.specs.Entries.{atom_state_bytes, IsAtomState, atom_state_at, atom_bytes, IsAtom, atom_at, exit_bytes, IsExit, exit_at, entry_bytes, IsEntry, entry_at};
 
 use crate::bounds::{MOST_ATOMS, MOST_CONJUNCTS, MOST_MARKS, MOST_VARIABLES};
-use crate::{Output, Wire, WireFault, are_in_range, read_items, write_items};
+use crate::{
+    Output, Terms, Wire, WireFault, WireWith, are_in_range, are_in_range_with, read_items,
+    read_items_with, write_items, write_items_with,
+};
 use px_base::{Kind, ProcId, Site};
 use px_entry::{Atom, AtomState, Entry, Exit};
 use px_terms::{Content, TypeId, Var};
 use std::alloc::Global;
 
-impl Wire for AtomState {
-    ghost bytes_of = { atom_state_bytes };
+impl WireWith for AtomState {
+    ghost bytes_with = { atom_state_bytes };
 
-    ghost fits = { IsAtomState };
+    ghost fits_with = { IsAtomState };
 
-    ghost at = { atom_state_at };
+    ghost at_with = { atom_state_at };
 
-    fn write<O: Output>(&self, out: &mut O, target: &mut O::Target) {
+    fn write_with<S: Terms, O: Output>(&self, terms: &S, out: &mut O, target: &mut O::Target) {
         match self {
             AtomState::Live(cells) => {
                 0u8.write(out, target);
-                write_items(cells.as_slice(), out, target)
+                write_items_with(terms, cells.as_slice(), out, target)
             }
             AtomState::Freed => 1u8.write(out, target),
         }
     }
 
     #[tactic(auto, unfolding(crate::specs::Entries::atom_state_at, crate::specs::Entries::atom_state_with))]
-    fn read(alloc: Global, bytes: &[u8]) -> Result<(AtomState, &[u8]), WireFault> {
+    fn read_with<'a, S: Terms>(
+        terms: &S,
+        alloc: Global,
+        bytes: &'a [u8],
+    ) -> Result<(AtomState, &'a [u8]), WireFault> {
         let (tag, rest) = u8::read(alloc, bytes)?;
         match tag {
             0 => {
-                let (cells, rest) = read_items(alloc, u32::MAX, rest)?;
+                let (cells, rest) = read_items_with(terms, alloc, u32::MAX, rest)?;
                 Ok((AtomState::Live(cells), rest))
             }
             1 => Ok((AtomState::Freed, rest)),
@@ -37,32 +44,36 @@ impl Wire for AtomState {
         }
     }
 
-    fn is_in_range(&self) -> bool {
+    fn is_in_range_with<S: Terms>(&self, terms: &S) -> bool {
         match self {
-            AtomState::Live(cells) => are_in_range(u32::MAX, cells.as_slice()),
+            AtomState::Live(cells) => are_in_range_with(terms, u32::MAX, cells.as_slice()),
             AtomState::Freed => true,
         }
     }
 }
 
-impl Wire for Atom {
-    ghost bytes_of = { atom_bytes };
+impl WireWith for Atom {
+    ghost bytes_with = { atom_bytes };
 
-    ghost fits = { IsAtom };
+    ghost fits_with = { IsAtom };
 
-    ghost at = { atom_at };
+    ghost at_with = { atom_at };
 
-    fn write<O: Output>(&self, out: &mut O, target: &mut O::Target) {
+    fn write_with<S: Terms, O: Output>(&self, terms: &S, out: &mut O, target: &mut O::Target) {
         self.place.write(out, target);
         self.block.write(out, target);
-        self.state.write(out, target)
+        self.state.write_with(terms, out, target)
     }
 
     #[tactic(auto, unfolding(crate::specs::Entries::atom_at))]
-    fn read(alloc: Global, bytes: &[u8]) -> Result<(Atom, &[u8]), WireFault> {
+    fn read_with<'a, S: Terms>(
+        terms: &S,
+        alloc: Global,
+        bytes: &'a [u8],
+    ) -> Result<(Atom, &'a [u8]), WireFault> {
         let (place, rest) = Var::read(alloc, bytes)?;
         let (block, rest) = TypeId::read(alloc, rest)?;
-        let (state, rest) = AtomState::read(alloc, rest)?;
+        let (state, rest) = AtomState::read_with(terms, alloc, rest)?;
         Ok((
             Atom {
                 place,
@@ -73,8 +84,8 @@ impl Wire for Atom {
         ))
     }
 
-    fn is_in_range(&self) -> bool {
-        self.place.is_in_range() && self.block.is_in_range() && self.state.is_in_range()
+    fn is_in_range_with<S: Terms>(&self, terms: &S) -> bool {
+        self.place.is_in_range() && self.block.is_in_range() && self.state.is_in_range_with(terms)
     }
 }
 
@@ -118,35 +129,39 @@ impl Wire for Exit {
     }
 }
 
-impl Wire for Entry {
-    ghost bytes_of = { entry_bytes };
+impl WireWith for Entry {
+    ghost bytes_with = { entry_bytes };
 
-    ghost fits = { IsEntry };
+    ghost fits_with = { IsEntry };
 
-    ghost at = { entry_at };
+    ghost at_with = { entry_at };
 
-    fn write<O: Output>(&self, out: &mut O, target: &mut O::Target) {
+    fn write_with<S: Terms, O: Output>(&self, terms: &S, out: &mut O, target: &mut O::Target) {
         self.proc.write(out, target);
         write_items(self.trace.as_slice(), out, target);
         self.exit.write(out, target);
-        self.result.write(out, target);
+        self.result.write_with(terms, out, target);
         write_items(self.vars.as_slice(), out, target);
-        write_items(self.pure.as_slice(), out, target);
-        write_items(self.pre.as_slice(), out, target);
-        write_items(self.post.as_slice(), out, target);
+        write_items_with(terms, self.pure.as_slice(), out, target);
+        write_items_with(terms, self.pre.as_slice(), out, target);
+        write_items_with(terms, self.post.as_slice(), out, target);
         write_items(self.model.as_slice(), out, target)
     }
 
     #[tactic(auto, unfolding(crate::specs::Entries::entry_at))]
-    fn read(alloc: Global, bytes: &[u8]) -> Result<(Entry, &[u8]), WireFault> {
+    fn read_with<'a, S: Terms>(
+        terms: &S,
+        alloc: Global,
+        bytes: &'a [u8],
+    ) -> Result<(Entry, &'a [u8]), WireFault> {
         let (proc, rest) = ProcId::read(alloc, bytes)?;
         let (trace, rest) = read_items(alloc, MOST_MARKS, rest)?;
         let (exit, rest) = Exit::read(alloc, rest)?;
-        let (result, rest) = Option::<Content>::read(alloc, rest)?;
+        let (result, rest) = Option::<Content>::read_with(terms, alloc, rest)?;
         let (vars, rest) = read_items(alloc, MOST_VARIABLES, rest)?;
-        let (pure, rest) = read_items(alloc, MOST_CONJUNCTS, rest)?;
-        let (pre, rest) = read_items(alloc, MOST_ATOMS, rest)?;
-        let (post, rest) = read_items(alloc, MOST_ATOMS, rest)?;
+        let (pure, rest) = read_items_with(terms, alloc, MOST_CONJUNCTS, rest)?;
+        let (pre, rest) = read_items_with(terms, alloc, MOST_ATOMS, rest)?;
+        let (post, rest) = read_items_with(terms, alloc, MOST_ATOMS, rest)?;
         let (model, rest) = read_items(alloc, u32::MAX, rest)?;
         Ok((
             Entry {
@@ -164,15 +179,15 @@ impl Wire for Entry {
         ))
     }
 
-    fn is_in_range(&self) -> bool {
+    fn is_in_range_with<S: Terms>(&self, terms: &S) -> bool {
         self.proc.is_in_range()
             && are_in_range(MOST_MARKS, self.trace.as_slice())
             && self.exit.is_in_range()
-            && self.result.is_in_range()
+            && self.result.is_in_range_with(terms)
             && are_in_range(MOST_VARIABLES, self.vars.as_slice())
-            && are_in_range(MOST_CONJUNCTS, self.pure.as_slice())
-            && are_in_range(MOST_ATOMS, self.pre.as_slice())
-            && are_in_range(MOST_ATOMS, self.post.as_slice())
+            && are_in_range_with(terms, MOST_CONJUNCTS, self.pure.as_slice())
+            && are_in_range_with(terms, MOST_ATOMS, self.pre.as_slice())
+            && are_in_range_with(terms, MOST_ATOMS, self.post.as_slice())
             && are_in_range(u32::MAX, self.model.as_slice())
     }
 }

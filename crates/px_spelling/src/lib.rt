@@ -6,6 +6,8 @@
 //! range has one spelling. `specs/` says it twice: `.._bytes` is the spelling of a value, and `.._at` what is read at the
 //! front of bytes. Each type's `is_in_range` says exactly whether a value is in range, and takes no memory.
 //!
+//! How polynomials are spelled in what holds them is a parameter: `Terms` says it, and `InFull` spells each in full.
+//!
 //! Bytes are put to an `Output`, which sends them on to a target of its kind: to a list, to a count, or to what another crate
 //! has. The same bytes are put whatever the output, and nothing that puts them fails.
 #![tactic(auto)]
@@ -25,12 +27,17 @@ mod output;
 mod polynomials;
 mod spell;
 mod tables;
+mod terms;
 mod traces;
 mod types;
 
 pub use byte_count::ByteCount;
 pub use byte_list::ByteList;
 pub use fault::WireFault;
-pub use laws::written_is_read;
+pub use laws::{holders_are_read, written_is_read};
 pub use output::Output;
-pub use spell::{Wire, are_in_range, read_items, write_count, write_items};
+pub use spell::{
+    Wire, WireWith, are_in_range, are_in_range_with, read_items, read_items_with, write_count,
+    write_items, write_items_with,
+};
+pub use terms::{InFull, Terms};

@@ -4,11 +4,12 @@ ghost use Rattle.px_spelling.specs.Reading.{Gives};
 ghost use Rattle.px_spelling.specs.Numbers.{u32_bytes};
 ghost use Rattle.px_spelling.specs.Lists.{list_bytes, IsList, items_at, list_at};
 
-use crate::{Output, WireFault};
+use crate::terms::NoTerms;
+use crate::{Output, Terms, WireFault};
 use px_terms::Items;
 use std::alloc::Global;
 
-/// What is written as bytes and read again.
+/// What is written as bytes and read again, in one way.
 pub trait Wire: Drop {
     ghost use Rattle.std.specs.Prelude.{List, ℕ};
     ghost use Rattle.px_spelling.specs.Reading.{Reader};
@@ -37,22 +38,63 @@ pub trait Wire: Drop {
         ensures { result ≡ true ↔ fits self.now };
 }
 
-/// A list of at most so many items at the front, and the bytes after it. Room is taken item by item, so that a count
-/// that the bytes don't hold takes none.
-#[tactic(auto, unfolding(crate::specs::Lists::list_at))]
-pub fn read_items<T: Wire>(
-    alloc: Global,
-    most: u32,
-    bytes: &[u8],
-) -> Result<(Items<T>, &[u8]), WireFault>
-    ensures reads { Gives (λ x. (x.0, x.1.now)) result (list_at T.at most bytes.now) }
-    ensures spelled { IfOk result (λ x. (bytes.now ≡ list_bytes T.bytes_of x.0 ++ x.1.now) × IsList T.fits most x.0) }
-{
-    let (count, rest) = u32::read(alloc, bytes)?;
-    if count > most {
-        return Err(WireFault::NotAMessage);
+/// What may hold polynomials. It is written as bytes and read again, in each spelling of these.
+pub trait WireWith: Drop {
+    ghost use Rattle.std.specs.Prelude.{List, ℕ};
+    ghost use Rattle.px_spelling.specs.Reading.{Reader};
+    ghost use Rattle.px_spelling.specs.Polynomials.{PolynomialSpelling};
+
+    // its bytes
+    ghost bytes_with: { PolynomialSpelling → Self → List ℕ };
+
+    // its numbers, lists and polynomials are in range
+    ghost fits_with: { PolynomialSpelling → Self → Type 0 };
+
+    // the one at the front of bytes
+    ghost at_with: { PolynomialSpelling → Reader Self };
+
+    /// Puts its bytes.
+    fn write_with<S: Terms, O: Output>(&self, terms: &S, out: &mut O, target: &mut O::Target)
+        ensures written { O.written out.new ≡ O.written out.old ++ bytes_with (S.spelling terms.now) self.now }
+        ensures reached { (from : O.Target) → O.reaches from out.old target.old → O.reaches from out.new target.new };
+
+    /// The one at the front, and the bytes after it.
+    fn read_with<'a, S: Terms>(
+        terms: &S,
+        alloc: Global,
+        bytes: &'a [u8],
+    ) -> Result<(Self, &'a [u8]), WireFault>
+        ensures reads { Gives (λ x. (x.0, x.1.now)) result (at_with (S.spelling terms.now) bytes.now) }
+        ensures spelled { IfOk result (λ x. (bytes.now ≡ bytes_with (S.spelling terms.now) x.0 ++ x.1.now) × fits_with (S.spelling terms.now) x.0) };
+
+    /// Whether its numbers, lists and polynomials are in range, so that its bytes are read again as it is. Takes no memory.
+    fn is_in_range_with<S: Terms>(&self, terms: &S) -> bool
+        ensures { result ≡ true ↔ fits_with (S.spelling terms.now) self.now };
+}
+
+// What holds no polynomials is spelled in the same way, however these are.
+impl<T: Wire> WireWith for T {
+    ghost bytes_with = { λ p. T.bytes_of };
+
+    ghost fits_with = { λ p. T.fits };
+
+    ghost at_with = { λ p. T.at };
+
+    fn write_with<S: Terms, O: Output>(&self, _: &S, out: &mut O, target: &mut O::Target) {
+        self.write(out, target)
     }
-    read_all(alloc, count, rest)
+
+    fn read_with<'a, S: Terms>(
+        _: &S,
+        alloc: Global,
+        bytes: &'a [u8],
+    ) -> Result<(T, &'a [u8]), WireFault> {
+        T::read(alloc, bytes)
+    }
+
+    fn is_in_range_with<S: Terms>(&self, _: &S) -> bool {
+        self.is_in_range()
+    }
 }
 
 impl<T: Wire> Wire for Option<T> {
@@ -96,45 +138,81 @@ impl<T: Wire> Wire for Option<T> {
     }
 }
 
-impl<A: Wire, B: Wire> Wire for (A, B) {
+impl<A: Wire, B: WireWith> WireWith for (A, B) {
     ghost use Rattle.px_spelling.specs.Lists.{pair_bytes, pair_at};
 
-    ghost bytes_of = { pair_bytes A.bytes_of B.bytes_of };
+    ghost bytes_with = { λ p. pair_bytes A.bytes_of (B.bytes_with p) };
 
-    ghost fits = { λ p. A.fits p.0 × B.fits p.1 };
+    ghost fits_with = { λ p x. A.fits x.0 × B.fits_with p x.1 };
 
-    ghost at = { pair_at A.at B.at };
+    ghost at_with = { λ p. pair_at A.at (B.at_with p) };
 
-    fn write<O: Output>(&self, out: &mut O, target: &mut O::Target) {
+    fn write_with<S: Terms, O: Output>(&self, terms: &S, out: &mut O, target: &mut O::Target) {
         self.0.write(out, target);
-        self.1.write(out, target)
+        self.1.write_with(terms, out, target)
     }
 
     #[tactic(auto, unfolding(crate::specs::Lists::pair_at))]
-    fn read(alloc: Global, bytes: &[u8]) -> Result<((A, B), &[u8]), WireFault> {
+    fn read_with<'a, S: Terms>(
+        terms: &S,
+        alloc: Global,
+        bytes: &'a [u8],
+    ) -> Result<((A, B), &'a [u8]), WireFault> {
         let (first, rest) = A::read(alloc, bytes)?;
-        let (second, rest) = B::read(alloc, rest)?;
+        let (second, rest) = B::read_with(terms, alloc, rest)?;
         Ok(((first, second), rest))
     }
 
-    fn is_in_range(&self) -> bool {
-        self.0.is_in_range() && self.1.is_in_range()
+    fn is_in_range_with<S: Terms>(&self, terms: &S) -> bool {
+        self.0.is_in_range() && self.1.is_in_range_with(terms)
     }
 }
 
-// So many items at the front.
-fn read_all<T: Wire>(
+/// A list of at most so many items at the front, and the bytes after it. Room is taken item by item, so that a count
+/// that the bytes don't hold takes none.
+pub fn read_items<T: Wire>(
     alloc: Global,
-    count: u32,
+    most: u32,
     bytes: &[u8],
 ) -> Result<(Items<T>, &[u8]), WireFault>
-    ensures reads { Gives (λ x. (x.0, x.1.now)) result (items_at T.at count bytes.now) }
-    ensures spelled { IfOk result (λ x. (bytes.now ≡ flat_map T.bytes_of x.0 ++ x.1.now) × (length x.0 ≡ count) × AllByRecursion T.fits x.0) }
+    ensures reads { Gives (λ x. (x.0, x.1.now)) result (list_at T.at most bytes.now) }
+    ensures spelled { IfOk result (λ x. (bytes.now ≡ list_bytes T.bytes_of x.0 ++ x.1.now) × IsList T.fits most x.0) }
+{
+    read_items_with(&NoTerms, alloc, most, bytes)
+}
+
+/// A list of at most so many items that may hold polynomials, as `read_items` reads one.
+#[tactic(auto, unfolding(crate::specs::Lists::list_at))]
+pub fn read_items_with<'a, T: WireWith, S: Terms>(
+    terms: &S,
+    alloc: Global,
+    most: u32,
+    bytes: &'a [u8],
+) -> Result<(Items<T>, &'a [u8]), WireFault>
+    ensures reads { Gives (λ x. (x.0, x.1.now)) result (list_at (T.at_with (S.spelling terms.now)) most bytes.now) }
+    ensures spelled { IfOk result (λ x. (bytes.now ≡ list_bytes (T.bytes_with (S.spelling terms.now)) x.0 ++ x.1.now) × IsList (T.fits_with (S.spelling terms.now)) most x.0) }
+{
+    let (count, rest) = u32::read(alloc, bytes)?;
+    if count > most {
+        return Err(WireFault::NotAMessage);
+    }
+    read_all(terms, alloc, count, rest)
+}
+
+// So many items at the front.
+fn read_all<'a, T: WireWith, S: Terms>(
+    terms: &S,
+    alloc: Global,
+    count: u32,
+    bytes: &'a [u8],
+) -> Result<(Items<T>, &'a [u8]), WireFault>
+    ensures reads { Gives (λ x. (x.0, x.1.now)) result (items_at (T.at_with (S.spelling terms.now)) count bytes.now) }
+    ensures spelled { IfOk result (λ x. (bytes.now ≡ flat_map (T.bytes_with (S.spelling terms.now)) x.0 ++ x.1.now) × (length x.0 ≡ count) × AllByRecursion (T.fits_with (S.spelling terms.now)) x.0) }
 {
     let mut items = Items::new(alloc);
     let mut rest = bytes;
     for _ in 0..count {
-        let (item, after) = T::read(alloc, rest)?;
+        let (item, after) = T::read_with(terms, alloc, rest)?;
         items.push(item)?;
         rest = after;
     }
@@ -162,9 +240,22 @@ pub fn write_items<T: Wire, O: Output>(items: &[T], out: &mut O, target: &mut O:
     ensures written { O.written out.new ≡ O.written out.old ++ list_bytes T.bytes_of items.now }
     ensures reached { (from : O.Target) → O.reaches from out.old target.old → O.reaches from out.new target.new }
 {
+    write_items_with(&NoTerms, items, out, target)
+}
+
+/// Puts the bytes of a list whose items may hold polynomials.
+pub fn write_items_with<T: WireWith, S: Terms, O: Output>(
+    terms: &S,
+    items: &[T],
+    out: &mut O,
+    target: &mut O::Target,
+)
+    ensures written { O.written out.new ≡ O.written out.old ++ list_bytes (T.bytes_with (S.spelling terms.now)) items.now }
+    ensures reached { (from : O.Target) → O.reaches from out.old target.old → O.reaches from out.new target.new }
+{
     write_count(items.len(), out, target);
     for item in items {
-        item.write(out, target);
+        item.write_with(terms, out, target);
     }
 }
 
@@ -172,14 +263,21 @@ pub fn write_items<T: Wire, O: Output>(items: &[T], out: &mut O, target: &mut O:
 pub fn are_in_range<T: Wire>(most: u32, items: &[T]) -> bool
     ensures { result ≡ true ↔ IsList T.fits most items.now }
 {
-    items.len() <= most as usize && is_each_in_range(items)
+    are_in_range_with(&NoTerms, most, items)
 }
 
-fn is_each_in_range<T: Wire>(items: &[T]) -> bool
-    ensures { result ≡ true ↔ AllByRecursion T.fits items.now }
+/// Whether a list has at most so many items that may hold polynomials, each in range. Takes no memory.
+pub fn are_in_range_with<T: WireWith, S: Terms>(terms: &S, most: u32, items: &[T]) -> bool
+    ensures { result ≡ true ↔ IsList (T.fits_with (S.spelling terms.now)) most items.now }
+{
+    items.len() <= most as usize && is_each_in_range(terms, items)
+}
+
+fn is_each_in_range<T: WireWith, S: Terms>(terms: &S, items: &[T]) -> bool
+    ensures { result ≡ true ↔ AllByRecursion (T.fits_with (S.spelling terms.now)) items.now }
 {
     for item in items {
-        if !item.is_in_range() {
+        if !item.is_in_range_with(terms) {
             return false;
         }
     }

@@ -1,7 +1,10 @@
 ghost use Rattle.px_spelling.specs.Tables.{long_kind_bytes, IsLongKind, long_kind_at, cause_bytes, IsCause, cause_at, gap_bytes, IsGap, gap_at, table_bytes, IsTable, table_at};
 
 use crate::bounds::{MOST_CONJUNCTS, MOST_MARKS, MOST_ROWS};
-use crate::{Output, Wire, WireFault, are_in_range, read_items, write_items};
+use crate::{
+    Output, Terms, Wire, WireFault, WireWith, are_in_range, are_in_range_with, read_items,
+    read_items_with, write_items, write_items_with,
+};
 use px_base::ProcId;
 use px_entry::{Cause, Gap, LongKind, Table};
 use std::alloc::Global;
@@ -45,18 +48,18 @@ impl Wire for LongKind {
     }
 }
 
-impl Wire for Cause {
-    ghost bytes_of = { cause_bytes };
+impl WireWith for Cause {
+    ghost bytes_with = { cause_bytes };
 
-    ghost fits = { IsCause };
+    ghost fits_with = { IsCause };
 
-    ghost at = { cause_at };
+    ghost at_with = { cause_at };
 
-    fn write<O: Output>(&self, out: &mut O, target: &mut O::Target) {
+    fn write_with<S: Terms, O: Output>(&self, terms: &S, out: &mut O, target: &mut O::Target) {
         match self {
             Cause::Undecided(conjuncts) => {
                 0u8.write(out, target);
-                write_items(conjuncts.as_slice(), out, target)
+                write_items_with(terms, conjuncts.as_slice(), out, target)
             }
             Cause::Nodes(number) => {
                 1u8.write(out, target);
@@ -94,11 +97,15 @@ impl Wire for Cause {
     }
 
     #[tactic(auto, unfolding(crate::specs::Tables::cause_at, crate::specs::Tables::cause_with))]
-    fn read(alloc: Global, bytes: &[u8]) -> Result<(Cause, &[u8]), WireFault> {
+    fn read_with<'a, S: Terms>(
+        terms: &S,
+        alloc: Global,
+        bytes: &'a [u8],
+    ) -> Result<(Cause, &'a [u8]), WireFault> {
         let (tag, rest) = u8::read(alloc, bytes)?;
         match tag {
             0 => {
-                let (conjuncts, rest) = read_items(alloc, MOST_CONJUNCTS, rest)?;
+                let (conjuncts, rest) = read_items_with(terms, alloc, MOST_CONJUNCTS, rest)?;
                 Ok((Cause::Undecided(conjuncts), rest))
             }
             1 => {
@@ -137,9 +144,13 @@ impl Wire for Cause {
         }
     }
 
-    fn is_in_range(&self) -> bool {
+    fn is_in_range_with<S: Terms>(&self, terms: &S) -> bool {
         match self {
-            Cause::Undecided(conjuncts) => are_in_range(MOST_CONJUNCTS, conjuncts.as_slice()),
+            Cause::Undecided(conjuncts) => are_in_range_with(
+                terms,
+                MOST_CONJUNCTS,
+                conjuncts.as_slice(),
+            ),
             Cause::Nodes(number) | Cause::Paths(number) | Cause::Outside(number) => {
                 number.is_in_range()
             }
@@ -152,52 +163,64 @@ impl Wire for Cause {
     }
 }
 
-impl Wire for Gap {
-    ghost bytes_of = { gap_bytes };
+impl WireWith for Gap {
+    ghost bytes_with = { gap_bytes };
 
-    ghost fits = { IsGap };
+    ghost fits_with = { IsGap };
 
-    ghost at = { gap_at };
+    ghost at_with = { gap_at };
 
-    fn write<O: Output>(&self, out: &mut O, target: &mut O::Target) {
+    fn write_with<S: Terms, O: Output>(&self, terms: &S, out: &mut O, target: &mut O::Target) {
         write_items(self.trace.as_slice(), out, target);
-        self.cause.write(out, target)
+        self.cause.write_with(terms, out, target)
     }
 
     #[tactic(auto, unfolding(crate::specs::Tables::gap_at))]
-    fn read(alloc: Global, bytes: &[u8]) -> Result<(Gap, &[u8]), WireFault> {
+    fn read_with<'a, S: Terms>(
+        terms: &S,
+        alloc: Global,
+        bytes: &'a [u8],
+    ) -> Result<(Gap, &'a [u8]), WireFault> {
         let (trace, rest) = read_items(alloc, MOST_MARKS, bytes)?;
-        let (cause, rest) = Cause::read(alloc, rest)?;
+        let (cause, rest) = Cause::read_with(terms, alloc, rest)?;
         Ok((Gap { trace, cause }, rest))
     }
 
-    fn is_in_range(&self) -> bool {
-        are_in_range(MOST_MARKS, self.trace.as_slice()) && self.cause.is_in_range()
+    fn is_in_range_with<S: Terms>(&self, terms: &S) -> bool {
+        are_in_range(MOST_MARKS, self.trace.as_slice()) && self.cause.is_in_range_with(terms)
     }
 }
 
-impl Wire for Table {
-    ghost bytes_of = { table_bytes };
+impl WireWith for Table {
+    ghost bytes_with = { table_bytes };
 
-    ghost fits = { IsTable };
+    ghost fits_with = { IsTable };
 
-    ghost at = { table_at };
+    ghost at_with = { table_at };
 
-    fn write<O: Output>(&self, out: &mut O, target: &mut O::Target) {
-        write_items(self.entries.as_slice(), out, target);
-        write_items(self.drops.as_slice(), out, target)
+    fn write_with<S: Terms, O: Output>(&self, terms: &S, out: &mut O, target: &mut O::Target) {
+        write_items_with(terms, self.entries.as_slice(), out, target);
+        write_items_with(terms, self.drops.as_slice(), out, target)
     }
 
     #[tactic(auto, unfolding(crate::specs::Tables::table_at))]
-    fn read(alloc: Global, bytes: &[u8]) -> Result<(Table, &[u8]), WireFault> {
-        let (entries, rest) = read_items(alloc, MOST_ROWS, bytes)?;
+    fn read_with<'a, S: Terms>(
+        terms: &S,
+        alloc: Global,
+        bytes: &'a [u8],
+    ) -> Result<(Table, &'a [u8]), WireFault> {
+        let (entries, rest) = read_items_with(terms, alloc, MOST_ROWS, bytes)?;
         let left = MOST_ROWS - entries.len() as u32;
-        let (drops, rest) = read_items(alloc, left, rest)?;
+        let (drops, rest) = read_items_with(terms, alloc, left, rest)?;
         Ok((Table { entries, drops }, rest))
     }
 
-    fn is_in_range(&self) -> bool {
-        are_in_range(MOST_ROWS, self.entries.as_slice())
-            && are_in_range(MOST_ROWS - self.entries.len() as u32, self.drops.as_slice())
+    fn is_in_range_with<S: Terms>(&self, terms: &S) -> bool {
+        are_in_range_with(terms, MOST_ROWS, self.entries.as_slice())
+            && are_in_range_with(
+                terms,
+                MOST_ROWS - self.entries.len() as u32,
+                self.drops.as_slice(),
+            )
     }
 }

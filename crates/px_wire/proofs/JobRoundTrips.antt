@@ -6,6 +6,7 @@ use Rattle.px_spelling.specs.Numbers.{u8_bytes, IsU8, u8_at}
 use Rattle.px_spelling.specs.Lists.{any_number}
 use Rattle.px_spelling.specs.Traces.{proc_id_bytes, IsProcId, proc_id_at}
 use Rattle.px_spelling.specs.Types.{block_type_bytes, IsBlockType, block_type_at}
+use Rattle.px_spelling.specs.Polynomials.{PolynomialSpelling}
 use Rattle.px_spelling.specs.Callees.{callee_bytes, IsCallee, callee_at}
 use Rattle.px_wire.specs.Jobs.{limits_bytes, limits_of, are_limits, only_if, numbers_at, limits_at, known_bytes, IsKnown, known_at, job_bytes, IsJob, job_of, job_at}
 use Rattle.px_spelling.proofs.RoundTrip.{ReadsAs, RoundTrip, done_reads, ◌⊛◌, u8_round_trip, u32_round_trip, u64_round_trip, list_round_trip, pair_round_trip}
@@ -29,13 +30,13 @@ limits_round_trip l fits =
     (done_reads limits_of ⊛ u32_round_trip l.unroll (few l.unroll 16 fits.0.1 (omega arith)) ⊛ u32_round_trip l.paths (few l.paths 128 fits.1.0.1 (omega arith)) ⊛ u32_round_trip l.nodes (few l.nodes 100000 fits.1.1.1 (omega arith)))
     (in_range l fits)
 
-known_round_trip : RoundTrip known_bytes IsKnown known_at
-known_round_trip = pair_round_trip proc_id_bytes IsProcId proc_id_at callee_bytes IsCallee callee_at proc_id_round_trip callee_round_trip
+known_round_trip : (p : PolynomialSpelling) → RoundTrip p.bytes_of p.fits p.at → RoundTrip (known_bytes p) (IsKnown p) (known_at p)
+known_round_trip p again = pair_round_trip proc_id_bytes IsProcId proc_id_at (callee_bytes p) (IsCallee p) (callee_at p) proc_id_round_trip (callee_round_trip p again)
 
-pub job_round_trip : RoundTrip job_bytes IsJob job_at
+pub job_round_trip : (p : PolynomialSpelling) → RoundTrip p.bytes_of p.fits p.at → RoundTrip (job_bytes p) (IsJob p) (job_at p)
 unfolding job_at
-job_round_trip j fits =
+job_round_trip p again j fits =
     done_reads job_of ⊛ proc_id_round_trip j.proc fits.0 ⊛ body_round_trip j.body fits.1
     ⊛ list_round_trip block_type_bytes IsBlockType block_type_at any_number block_type_round_trip j.types fits.2
-    ⊛ list_round_trip known_bytes IsKnown known_at any_number known_round_trip j.callees fits.3
+    ⊛ list_round_trip (known_bytes p) (IsKnown p) (known_at p) any_number (known_round_trip p again) j.callees fits.3
     ⊛ limits_round_trip j.limits fits.4 ⊛ list_round_trip u8_bytes IsU8 u8_at any_number u8_round_trip j.kinds fits.5 ⊛ u64_round_trip j.ticket fits.6

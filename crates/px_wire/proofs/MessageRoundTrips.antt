@@ -7,7 +7,8 @@ use Rattle.px_spelling.specs.declared.fault.WireFault.TheVariants.{NotAMessage, 
 use Rattle.px_spelling.specs.Reading.{Fails}
 use Rattle.px_spelling.specs.Numbers.{u8_bytes, IsU8, u8_at}
 use Rattle.px_spelling.specs.Lists.{list_bytes, list_at, any_number}
-use Rattle.px_spelling.specs.Tables.{table_bytes, table_at}
+use Rattle.px_spelling.specs.Polynomials.{in_full}
+use Rattle.px_spelling.specs.InFull.{table_bytes, table_at}
 use Rattle.px_spelling.specs.Derivations.{derivation_bytes, IsDerivation, derivation_at}
 use Rattle.px_wire.specs.TableRanges.{table_within}
 use Rattle.px_wire.specs.JobRanges.{job_within, rises}
@@ -15,7 +16,8 @@ use Rattle.px_wire.specs.Jobs.{job_bytes, job_at}
 use Rattle.px_wire.specs.Messages.{MessageTree, request, reply, large, version, any_types, message_bytes, IsMessage, Spells, IsDecoded}
 use Rattle.px_wire.specs.Readers.{request_at, kinds_at, own_table_at, reply_at, large_at, fields_at, with_version, versioned_at, message_at, whole, message_in}
 use Rattle.px_spelling.proofs.RoundTrip.{ReadsAs, done_reads, ◌⊛◌, tagged, u8_round_trip, u64_round_trip, list_round_trip}
-use Rattle.px_spelling.proofs.TableRoundTrips.{table_round_trip}
+use Rattle.px_spelling.proofs.PolynomialRoundTrips.{polynomial_round_trip}
+use Rattle.px_spelling.proofs.InFullRoundTrips.{table_round_trip}
 use Rattle.px_spelling.proofs.DerivationRoundTrips.{derivation_round_trip}
 use Rattle.px_wire.proofs.JobRoundTrips.{tested, job_round_trip}
 
@@ -23,7 +25,7 @@ pub message_round_trip : (m : MessageTree) → IsMessage m → ReadsAs message_a
 unfolding message_at fields_at request_at kinds_at own_table_at reply_at large_at
 message_round_trip (request j) (fits, within) =
     tagged 0 versioned_at (tagged version (with_version 0) (
-    done_reads request ⊛ tested job_within job_at (job_bytes j) j (job_round_trip j fits) within))
+    done_reads request ⊛ tested job_within (job_at in_full) (job_bytes in_full j) j (job_round_trip in_full polynomial_round_trip j fits) within))
 message_round_trip (reply ticket kinds table derivations) ((is_ticket, are_kinds, is_table, are_derivations), rise, within) =
     tagged 1 versioned_at (tagged version (with_version 1) (
     done_reads reply ⊛ u64_round_trip ticket is_ticket

@@ -14,6 +14,7 @@ use Rattle.px_spelling.specs.Numbers.{u8_bytes, IsU8, u8_at, u32_bytes, u32_at, 
 use Rattle.px_spelling.specs.Lists.{list_bytes, IsList, list_at, any_number, pair_bytes, pair_at}
 use Rattle.px_spelling.specs.Traces.{proc_id_bytes, IsProcId, proc_id_at}
 use Rattle.px_spelling.specs.Types.{block_type_bytes, IsBlockType, block_type_at}
+use Rattle.px_spelling.specs.Polynomials.{PolynomialSpelling}
 use Rattle.px_spelling.specs.Callees.{callee_bytes, IsCallee, callee_at}
 use Rattle.px_body_spelling.specs.Bodies.{body_bytes, IsBody, body_at}
 
@@ -46,28 +47,28 @@ AreLimits numbers (Ok limits) = (limits ≡ numbers) × (are_limits numbers ≡ 
 AreLimits numbers (Err NotAMessage) = are_limits numbers ≡ false
 AreLimits numbers (Err NoMemory) = ⊥
 
--- a callee by its number
-abbrev pub known_bytes : ProcId × Callee → List ℕ
-known_bytes = pair_bytes proc_id_bytes callee_bytes
+-- a callee by its number, in a spelling of polynomials
+abbrev pub known_bytes : PolynomialSpelling → ProcId × Callee → List ℕ
+known_bytes p = pair_bytes proc_id_bytes (callee_bytes p)
 
-abbrev pub IsKnown : ProcId × Callee → Type 0
-IsKnown c = IsProcId c.0 × IsCallee c.1
+abbrev pub IsKnown : PolynomialSpelling → ProcId × Callee → Type 0
+IsKnown p c = IsProcId c.0 × IsCallee p c.1
 
-abbrev pub known_at : Reader (ProcId × Callee)
-known_at = pair_at proc_id_at callee_at
+abbrev pub known_at : PolynomialSpelling → Reader (ProcId × Callee)
+known_at p = pair_at proc_id_at (callee_at p)
 
--- a job
-abbrev pub job_bytes : JobTree → List ℕ
-job_bytes j = proc_id_bytes j.proc ++ body_bytes j.body ++ list_bytes block_type_bytes j.types ++ list_bytes known_bytes j.callees
+-- a job, in a spelling of polynomials
+abbrev pub job_bytes : PolynomialSpelling → JobTree → List ℕ
+job_bytes p j = proc_id_bytes j.proc ++ body_bytes j.body ++ list_bytes block_type_bytes j.types ++ list_bytes (known_bytes p) j.callees
     ++ limits_bytes j.limits ++ list_bytes u8_bytes j.kinds ++ u64_bytes j.ticket
 
-abbrev pub IsJob : JobTree → Type 0
-IsJob j = IsProcId j.proc × IsBody j.body × IsList IsBlockType any_number j.types × IsList IsKnown any_number j.callees
+abbrev pub IsJob : PolynomialSpelling → JobTree → Type 0
+IsJob p j = IsProcId j.proc × IsBody j.body × IsList IsBlockType any_number j.types × IsList (IsKnown p) any_number j.callees
     × IsInRange j.limits × IsList IsU8 any_number j.kinds × IsU64 j.ticket
 
 abbrev pub job_of : ProcId → BodyTree → List BlockType → List (ProcId × Callee) → LimitNumbers → List ℕ → ℕ → JobTree
 job_of proc body types callees limits kinds ticket = record { proc = proc; body = body; types = types; callees = callees; limits = limits; kinds = kinds; ticket = ticket }
 
-unfoldable pub job_at : Reader JobTree
-job_at = done job_of <*> proc_id_at <*> body_at <*> list_at block_type_at any_number <*> list_at known_at any_number
+unfoldable pub job_at : PolynomialSpelling → Reader JobTree
+job_at p = done job_of <*> proc_id_at <*> body_at <*> list_at block_type_at any_number <*> list_at (known_at p) any_number
     <*> limits_at <*> list_at u8_at any_number <*> u64_at

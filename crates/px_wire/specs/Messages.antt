@@ -7,7 +7,8 @@ use Rattle.px_spelling.specs.declared.fault.WireFault.{WireFault}
 use Rattle.px_spelling.specs.declared.fault.WireFault.TheVariants.{NotAMessage, NoMemory}
 use Rattle.px_spelling.specs.Numbers.{u8_bytes, IsU8, u64_bytes, IsU64}
 use Rattle.px_spelling.specs.Lists.{list_bytes, IsList, any_number}
-use Rattle.px_spelling.specs.Tables.{table_bytes, IsTable}
+use Rattle.px_spelling.specs.Polynomials.{in_full}
+use Rattle.px_spelling.specs.InFull.{table_bytes, IsTable}
 use Rattle.px_spelling.specs.Derivations.{derivation_bytes, IsDerivation}
 use Rattle.px_wire.specs.TableRanges.{table_within}
 use Rattle.px_wire.specs.JobRanges.{job_within, rises}
@@ -26,13 +27,13 @@ message_tree (M.Request job) = request (job_tree job)
 message_tree (M.Reply ticket kinds table derivations) = reply ticket kinds table derivations
 message_tree (M.Large ticket) = large ticket
 
--- the version of these bytes
+-- the version of these bytes, in which each polynomial is spelled in full
 abbrev pub version : ℕ
 version = 1
 
 -- which message it is, the version, and its fields
 abbrev pub message_bytes : MessageTree → List ℕ
-message_bytes (request j) = 0 ∷ version ∷ job_bytes j
+message_bytes (request j) = 0 ∷ version ∷ job_bytes in_full j
 message_bytes (reply ticket kinds table derivations) =
     1 ∷ version ∷ (u64_bytes ticket ++ list_bytes u8_bytes kinds ++ table_bytes table ++ list_bytes derivation_bytes derivations)
 message_bytes (large ticket) = 2 ∷ version ∷ u64_bytes ticket
@@ -43,7 +44,7 @@ any_types = 4294967296
 
 -- In range: its numbers and lists are, its polynomials are in normal form, what it names is there, and kinds and callees rise.
 abbrev pub IsMessage : MessageTree → Type 0
-IsMessage (request j) = IsJob j × (job_within j ≡ true)
+IsMessage (request j) = IsJob in_full j × (job_within j ≡ true)
 IsMessage (reply ticket kinds table derivations) =
     (IsU64 ticket × IsList IsU8 any_number kinds × IsTable table × IsList IsDerivation any_number derivations)
     × (rises kinds ≡ true) × (table_within any_types table ≡ true)

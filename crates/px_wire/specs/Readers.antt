@@ -4,6 +4,7 @@ use Rattle.px_entry.specs.declared.tables.Table.{Table}
 use Rattle.px_spelling.specs.Reading.{Reader, ◌>>=◌, ◌<*>◌, done, nothing}
 use Rattle.px_spelling.specs.Numbers.{u8_at, u64_at}
 use Rattle.px_spelling.specs.Lists.{list_at, any_number}
+use Rattle.px_spelling.specs.Polynomials.{PolynomialSpelling, in_full}
 use Rattle.px_spelling.specs.Tables.{table_at}
 use Rattle.px_spelling.specs.Derivations.{derivation_at}
 use Rattle.px_wire.specs.TableRanges.{table_within}
@@ -12,16 +13,17 @@ use Rattle.px_wire.specs.Jobs.{only_if, job_at}
 use Rattle.px_wire.specs.Messages.{MessageTree, request, reply, large, version, any_types}
 
 unfoldable pub request_at : Reader MessageTree
-request_at = done request <*> (job_at >>= only_if job_within)
+request_at = done request <*> (job_at in_full >>= only_if job_within)
 
 unfoldable pub kinds_at : Reader (List ℕ)
 kinds_at = list_at u8_at any_number >>= only_if rises
 
-unfoldable pub own_table_at : Reader Table
-own_table_at = table_at >>= only_if (table_within any_types)
+-- in a spelling of polynomials
+unfoldable pub own_table_at : PolynomialSpelling → Reader Table
+own_table_at p = table_at p >>= only_if (table_within any_types)
 
 unfoldable pub reply_at : Reader MessageTree
-reply_at = done reply <*> u64_at <*> kinds_at <*> own_table_at <*> list_at derivation_at any_number
+reply_at = done reply <*> u64_at <*> kinds_at <*> own_table_at in_full <*> list_at derivation_at any_number
 
 unfoldable pub large_at : Reader MessageTree
 large_at = done large <*> u64_at

@@ -18,7 +18,7 @@ use px_base::{Limits, ProcId};
 use px_body_spelling::read_body;
 use px_callgraph::Job;
 use px_entry::Table;
-use px_spelling::{Wire, WireFault, read_items};
+use px_spelling::{InFull, Terms, Wire, WireFault, WireWith, read_items, read_items_with};
 use px_terms::Items;
 use std::alloc::Global;
 
@@ -62,7 +62,7 @@ fn read_request(alloc: Global, bytes: &[u8]) -> Result<(Message, &[u8]), WireFau
     ensures reads { Gives (λ x. (message_tree x.0, x.1.now)) result (request_at bytes.now) }
     ensures spelled { IfOk result (λ x. (0 ∷ 1 ∷ bytes.now ≡ message_bytes (message_tree x.0) ++ x.1.now) × IsMessage (message_tree x.0)) }
 {
-    let (job, rest) = read_job(alloc, bytes)?;
+    let (job, rest) = read_job(&InFull, alloc, bytes)?;
     if is_job_within(&job) {
         Ok((Message::Request { job }, rest))
     } else {
@@ -77,7 +77,7 @@ fn read_reply(alloc: Global, bytes: &[u8]) -> Result<(Message, &[u8]), WireFault
 {
     let (ticket, rest) = u64::read(alloc, bytes)?;
     let (kinds, rest) = read_kinds(alloc, rest)?;
-    let (table, rest) = read_table(alloc, rest)?;
+    let (table, rest) = read_table(&InFull, alloc, rest)?;
     let (derivations, rest) = read_items(alloc, u32::MAX, rest)?;
     let reply = Message::Reply {
         ticket,
@@ -113,11 +113,15 @@ fn read_kinds(alloc: Global, bytes: &[u8]) -> Result<(Items<u8>, &[u8]), WireFau
 
 // A table of a job with any number of block types.
 #[tactic(auto, unfolding(crate::specs::Readers::own_table_at))]
-fn read_table(alloc: Global, bytes: &[u8]) -> Result<(Table, &[u8]), WireFault>
-    ensures reads { Gives (λ x. (x.0, x.1.now)) result (own_table_at bytes.now) }
-    ensures spelled { IfOk result (λ x. (bytes.now ≡ table_bytes x.0 ++ x.1.now) × IsTable x.0 × (table_within any_types x.0 ≡ true)) }
+fn read_table<'a, S: Terms>(
+    terms: &S,
+    alloc: Global,
+    bytes: &'a [u8],
+) -> Result<(Table, &'a [u8]), WireFault>
+    ensures reads { Gives (λ x. (x.0, x.1.now)) result (own_table_at (S.spelling terms.now) bytes.now) }
+    ensures spelled { IfOk result (λ x. (bytes.now ≡ table_bytes (S.spelling terms.now) x.0 ++ x.1.now) × IsTable (S.spelling terms.now) x.0 × (table_within any_types x.0 ≡ true)) }
 {
-    let (table, rest) = Table::read(alloc, bytes)?;
+    let (table, rest) = Table::read_with(terms, alloc, bytes)?;
     if is_table_within(ANY_TYPES, &table) {
         Ok((table, rest))
     } else {
@@ -126,14 +130,18 @@ fn read_table(alloc: Global, bytes: &[u8]) -> Result<(Table, &[u8]), WireFault>
 }
 
 #[tactic(auto, unfolding(crate::specs::Jobs::job_at, crate::specs::Jobs::limits_at))]
-fn read_job(alloc: Global, bytes: &[u8]) -> Result<(Job, &[u8]), WireFault>
-    ensures reads { Gives (λ x. (job_tree x.0, x.1.now)) result (job_at bytes.now) }
-    ensures spelled { IfOk result (λ x. (bytes.now ≡ job_bytes (job_tree x.0) ++ x.1.now) × IsJob (job_tree x.0)) }
+fn read_job<'a, S: Terms>(
+    terms: &S,
+    alloc: Global,
+    bytes: &'a [u8],
+) -> Result<(Job, &'a [u8]), WireFault>
+    ensures reads { Gives (λ x. (job_tree x.0, x.1.now)) result (job_at (S.spelling terms.now) bytes.now) }
+    ensures spelled { IfOk result (λ x. (bytes.now ≡ job_bytes (S.spelling terms.now) (job_tree x.0) ++ x.1.now) × IsJob (S.spelling terms.now) (job_tree x.0)) }
 {
     let (proc, rest) = ProcId::read(alloc, bytes)?;
     let (body, rest) = read_body(alloc, rest)?;
     let (types, rest) = read_items(alloc, u32::MAX, rest)?;
-    let (callees, rest) = read_items(alloc, u32::MAX, rest)?;
+    let (callees, rest) = read_items_with(terms, alloc, u32::MAX, rest)?;
     let (numbers, rest) = read_numbers(alloc, rest)?;
     let limits = checked_limits(numbers)?;
     let (kinds, rest) = read_items(alloc, u32::MAX, rest)?;

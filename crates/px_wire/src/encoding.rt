@@ -12,7 +12,9 @@ use px_body_spelling::write_body;
 use px_callgraph::Job;
 use px_entry::{Derivation, Table};
 use px_io::{Failed, Sink};
-use px_spelling::{ByteCount, ByteList, Output, Wire, write_items};
+use px_spelling::{
+    ByteCount, ByteList, InFull, Output, Terms, Wire, WireWith, write_items, write_items_with,
+};
 use px_terms::NoMemory;
 use std::alloc::Global;
 
@@ -95,7 +97,7 @@ fn write_request<O: Output>(job: &Job, out: &mut O, target: &mut O::Target)
     ensures reached { (from : O.Target) → O.reaches from out.old target.old → O.reaches from out.new target.new }
 {
     write_head(0, out, target);
-    write_job(job, out, target)
+    write_job(&InFull, job, out, target)
 }
 
 fn write_reply<O: Output>(
@@ -112,7 +114,7 @@ fn write_reply<O: Output>(
     write_head(1, out, target);
     ticket.write(out, target);
     write_items(kinds, out, target);
-    table.write(out, target);
+    table.write_with(&InFull, out, target);
     write_items(derivations, out, target)
 }
 
@@ -133,14 +135,14 @@ fn write_head<O: Output>(tag: u8, out: &mut O, target: &mut O::Target)
     VERSION.write(out, target)
 }
 
-fn write_job<O: Output>(job: &Job, out: &mut O, target: &mut O::Target)
-    ensures written { O.written out.new ≡ O.written out.old ++ job_bytes (job_tree job.now) }
+fn write_job<S: Terms, O: Output>(terms: &S, job: &Job, out: &mut O, target: &mut O::Target)
+    ensures written { O.written out.new ≡ O.written out.old ++ job_bytes (S.spelling terms.now) (job_tree job.now) }
     ensures reached { (from : O.Target) → O.reaches from out.old target.old → O.reaches from out.new target.new }
 {
     job.proc.write(out, target);
     write_body(&job.body, out, target);
     write_items(job.types.as_slice(), out, target);
-    write_items(job.callees.as_slice(), out, target);
+    write_items_with(terms, job.callees.as_slice(), out, target);
     write_limits(job.limits, out, target);
     write_items(job.kinds.as_slice(), out, target);
     job.ticket.write(out, target)

@@ -13,7 +13,7 @@ use px_base::Limits;
 use px_body_spelling::is_body_in_range;
 use px_callgraph::Job;
 use px_entry::{Derivation, Table};
-use px_spelling::{Wire, are_in_range};
+use px_spelling::{InFull, Terms, Wire, WireWith, are_in_range, are_in_range_with};
 
 /// Whether a message is in range, so that its bytes spell it. Takes no memory.
 pub fn is_in_range(message: &Message) -> bool
@@ -35,7 +35,7 @@ pub fn is_in_range(message: &Message) -> bool
 pub fn is_request_in_range(job: &Job) -> bool
     ensures { result ≡ true ↔ IsMessage (request (job_tree job.now)) }
 {
-    is_job_in_range(job) && is_job_within(job)
+    is_job_in_range(&InFull, job) && is_job_within(job)
 }
 
 fn is_reply_in_range(ticket: u64, kinds: &[u8], table: &Table, derivations: &[Derivation]) -> bool
@@ -43,19 +43,19 @@ fn is_reply_in_range(ticket: u64, kinds: &[u8], table: &Table, derivations: &[De
 {
     ticket.is_in_range()
         && are_in_range(u32::MAX, kinds)
-        && table.is_in_range()
+        && table.is_in_range_with(&InFull)
         && are_in_range(u32::MAX, derivations)
         && do_kinds_rise(kinds)
         && is_table_within(ANY_TYPES, table)
 }
 
-fn is_job_in_range(job: &Job) -> bool
-    ensures { result ≡ true ↔ IsJob (job_tree job.now) }
+fn is_job_in_range<S: Terms>(terms: &S, job: &Job) -> bool
+    ensures { result ≡ true ↔ IsJob (S.spelling terms.now) (job_tree job.now) }
 {
     job.proc.is_in_range()
         && is_body_in_range(&job.body)
         && are_in_range(u32::MAX, job.types.as_slice())
-        && are_in_range(u32::MAX, job.callees.as_slice())
+        && are_in_range_with(terms, u32::MAX, job.callees.as_slice())
         && are_limits_in_range(job.limits)
         && are_in_range(u32::MAX, job.kinds.as_slice())
         && job.ticket.is_in_range()

@@ -6,7 +6,7 @@ use Rattle.px_parts.proofs.unread.hold.Goals as goal
 
 pub returns-clause-skim : goal.returns-clause-skim
 returns-clause-skim c =
-    let u = c.let_go.new.unread in
+    let u = c.make_room.new.unread in
     let all = c.extend_from_slice.new.self.items in
     let more : all ≡ u.held.items ++ c.args.bytes.now = search rules in
-    skim_held u.place (drop u.start all) (held_in u) c.args.bytes.now u.skim (ap (λ l. drop u.start l) more ∙ held_more u.start u.held.items c.args.bytes.now c.let_go.ensures.within) c.let_go.ensures.skim
+    skim_held u.place (drop u.start all) (held_in u) c.args.bytes.now u.skim (ap (λ l. drop u.start l) more ∙ held_more u.start u.held.items c.args.bytes.now c.make_room.ensures.within) c.make_room.ensures.skim

@@ -11,7 +11,8 @@ use Rattle.px_wire.proofs.Put.{seven}
 use Rattle.px_wire.proofs.decoding.read_job.Goals as goal
 
 pub returns-clause-spelled : goal.returns-clause-spelled
-returns-clause-spelled c =
+returns-clause-spelled g c =
+    let p = g.S.Terms.spelling c.args.terms.now in
     let proc = c.in_ok-proc.ensures.spelled in
     let body = c.in_ok-body.ensures.spelled in
     let types = c.in_ok-types.ensures.spelled in
@@ -24,7 +25,7 @@ returns-clause-spelled c =
           (proc_id_bytes c.in_ok-proc.proc) c.in_ok-proc.rest.now
           (body_bytes (body_tree c.in_ok-body.body)) c.in_ok-body.rest.now
           (list_bytes block_type_bytes c.in_ok-types.types) c.in_ok-types.rest.now
-          (list_bytes known_bytes c.in_ok-callees.callees) c.in_ok-callees.rest.now
+          (list_bytes (known_bytes p) c.in_ok-callees.callees) c.in_ok-callees.rest.now
           (limits_bytes c.in_ok-limits.limits) c.in_ok-numbers.rest.now
           (list_bytes u8_bytes c.in_ok-kinds.kinds) c.in_ok-kinds.rest.now
           (u64_bytes c.in_ok-ticket.ticket) c.in_ok-ticket.rest.now
