@@ -1,5 +1,6 @@
 -- Arguments, one after another.
 use Rattle.std.proofs.Common.{◌≡◌, ◌∙◌, refl, sym, ap, ap₂, ℕ, zero, suc, ◌+◌, ◌<◌, ◌≤◌, Bool, true, false, ◌&&◌, List, [], ◌∷◌, ◌++◌, map, drop, length, get_or, Option, Some, None, arith, append_assoc, append-nil}
+use Rattle.std.specs.Prelude.{if◌then◌else◌}
 use Rattle.px_base.specs.declared.trace.Site.{Site}
 use Rattle.px_syntax.specs.TypedTree.{Expression}
 use Rattle.px_real_expressions.specs.Lexemes.{Lexeme}
@@ -16,22 +17,26 @@ use Rattle.px_real_values.proofs.ChainLemmas.{drop_next, drop_none}
 
 -- ---- what was evaluated so far, before others
 
+abbrev pub evaluated : List Expression → Bool → Evaluated
+evaluated es b = record { all = es; all_passed = b }
+
 pub behind_passed : (es : List Expression) (b : Bool) (e : Expression) (rest : Evaluated) → behind es b (with_passed e rest) ≡ behind (es ++ e ∷ []) b rest
-behind_passed es b e rest = ap (λ z. record { all = z; all_passed = b && rest.all_passed }) (sym (append_assoc es (e ∷ []) rest.all))
+behind_passed es b e rest = ap (λ z. evaluated z (b && rest.all_passed)) (sym (append_assoc es (e ∷ []) rest.all))
 
 pub behind_silent : (es : List Expression) (b : Bool) (ps : List Expression) (rest : Evaluated) → are_silent ps ≡ true → behind es b (with_erased ps rest) ≡ behind es b rest
-behind_silent es b ps rest h = rw h refl
+behind_silent es b ps rest h = ap (λ z. behind es b (if z then rest else evaluated (ps ++ rest.all) false)) h
 
 none_passed : (b : Bool) → (b && false) ≡ false
 none_passed true = refl
 none_passed false = refl
 
 pub behind_effect : (es : List Expression) (b : Bool) (ps : List Expression) (rest : Evaluated) → are_silent ps ≡ false → behind es b (with_erased ps rest) ≡ behind (es ++ ps) false rest
-behind_effect es b ps rest h = rw h (ap₂ (λ z k. record { all = z; all_passed = k }) (sym (append_assoc es ps rest.all)) (none_passed b))
+behind_effect es b ps rest h =
+    ap (λ z. behind es b (if z then rest else evaluated (ps ++ rest.all) false)) h ∙ ap₂ evaluated (sym (append_assoc es ps rest.all)) (none_passed b)
 
-pub behind_nothing : (es : List Expression) (b : Bool) → behind es b (record { all = []; all_passed = true }) ≡ record { all = es; all_passed = b }
-behind_nothing es true = ap (λ z. record { all = z; all_passed = true }) (append-nil es)
-behind_nothing es false = ap (λ z. record { all = z; all_passed = false }) (append-nil es)
+behind_nothing : (es : List Expression) (b : Bool) → behind es b (evaluated [] true) ≡ evaluated es b
+behind_nothing es true = ap (λ z. evaluated z true) (append-nil es)
+behind_nothing es false = ap (λ z. evaluated z false) (append-nil es)
 
 -- ---- of those that are given
 
@@ -93,11 +98,11 @@ module _ (env : Environment) (all : List Lexeme) where
         ∙ sym (ap (behind es b) next_argument)
         ∙ before
 
-  no_arguments : (ps : List (Option ProfileType)) → arguments env ps [] ≡ record { all = []; all_passed = true }
+  no_arguments : (ps : List (Option ProfileType)) → arguments env ps [] ≡ evaluated [] true
   no_arguments [] = refl
   no_arguments (p ∷ ps) = refl
 
   pub arguments_end : (ps : List (Option ProfileType)) (xs : List Argument) (i : ℕ) (whole : Evaluated) (es : List Expression) (b : Bool) → length xs ≤ i → behind es b (arguments env (drop i ps) (given_of (drop i xs))) ≡ whole →
-      record { all = es; all_passed = b } ≡ whole
+      evaluated es b ≡ whole
   arguments_end ps xs i whole es b l h =
       sym (behind_nothing es b) ∙ sym (ap (behind es b) (ap (arguments env (drop i ps)) (given_none xs i l) ∙ no_arguments (drop i ps))) ∙ h

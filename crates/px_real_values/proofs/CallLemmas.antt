@@ -1,5 +1,6 @@
 -- Calls, by what the code tests of their arguments.
 use Rattle.std.proofs.Common.{◌≡◌, ◌≢◌, ◌∙◌, refl, sym, ap, Bool, true, false, ℕ, suc, ◌<◌, ◌≤◌, List, [], ◌∷◌, map, length, get_or, Option, Some, None, codes, arith}
+use Rattle.std.specs.Prelude.{if◌then◌else◌}
 use Rattle.px_base.specs.declared.trace.Site.{Site}
 use Rattle.px_expressions.specs.Reading.{or_else}
 use Rattle.px_syntax.specs.TypedTree as T
@@ -15,7 +16,7 @@ use Rattle.px_real_values.specs.Operands.{Operand, of_type}
 use Rattle.px_real_values.specs.Operators.{stopped_at}
 use Rattle.px_real_values.specs.Calls.{Given, fits, all_parts, arguments, gives, called, function_call, input_call, expect_call}
 use Rattle.px_real_values.specs.Values.{valued, measured, block_of_type, block_of}
-use Rattle.px_real_values.proofs.ArgumentLemmas.{given_of}
+use Rattle.px_real_values.proofs.ArgumentLemmas.{evaluated, given_of}
 
 -- ---- as many as there are parameters
 
@@ -46,14 +47,17 @@ not_as_many (p ∷ ps) (x ∷ xs) l = not_as_many ps xs (λ e. l (ap suc e))
 
 module _ (env : Environment) (s : Signature) (at : Site) (xs : List Given) where
   pub not_fitting : fits s.parameters s.takes_more xs ≡ false → function_call env s at xs ≡ stopped_at env (codes "call") at (all_parts env xs)
-  not_fitting h = rw h refl
+  not_fitting h = ap (λ z. if z then called env s at (arguments env s.parameters xs) else stopped_at env (codes "call") at (all_parts env xs)) h
 
   module _ (h : fits s.parameters s.takes_more xs ≡ true) (es : List Expression) where
-    pub all_are_passed : record { all = es; all_passed = true } ≡ arguments env s.parameters xs → function_call env s at xs ≡ gives env s at (T.expressions_of es) s.result
-    all_are_passed e = rw h (ap (called env s at) (sym e))
+    fitting : function_call env s at xs ≡ called env s at (arguments env s.parameters xs)
+    fitting = ap (λ z. if z then called env s at (arguments env s.parameters xs) else stopped_at env (codes "call") at (all_parts env xs)) h
 
-    pub some_are_not : record { all = es; all_passed = false } ≡ arguments env s.parameters xs → function_call env s at xs ≡ stopped_at env (codes "call") at es
-    some_are_not e = rw h (ap (called env s at) (sym e))
+    pub all_are_passed : evaluated es true ≡ arguments env s.parameters xs → function_call env s at xs ≡ gives env s at (T.expressions_of es) s.result
+    all_are_passed e = fitting ∙ ap (called env s at) (sym e)
+
+    pub some_are_not : evaluated es false ≡ arguments env s.parameters xs → function_call env s at xs ≡ stopped_at env (codes "call") at es
+    some_are_not e = fitting ∙ ap (called env s at) (sym e)
 
 -- ---- of the library
 

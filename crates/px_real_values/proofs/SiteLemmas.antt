@@ -3,7 +3,7 @@ use Rattle.std.proofs.Common.{◌≡◌, ◌∙◌, refl, sym, ap, false, List, 
 use Rattle.px_base.specs.declared.trace.Site.{Site}
 use Rattle.px_real_expressions.specs.declared.operators.Operator.{Operator}
 use Rattle.px_real_expressions.specs.Lexemes.{Lexeme}
-use Rattle.px_real_expressions.specs.ExpressionTree.{ExpressionTree}
+use Rattle.px_real_expressions.specs.ExpressionTree.{ExpressionTree, binary}
 use Rattle.px_real_reading.specs.declared.tree.Link.{Link}
 use Rattle.px_real_reading.specs.declared.tree.Suffix.{Suffix}
 use Rattle.px_real_reading.specs.declared.tree.Expression.{Expression}
@@ -27,7 +27,7 @@ site_before_all e (s ∷ ss) = site_before_all (suffixed e s) ss ∙ site_before
 
 site_before_links : (e : ExpressionTree) (ls : List LinkTree) → first_site (chained e ls) ≡ first_site e
 site_before_links e [] = refl
-site_before_links e (l ∷ ls) = site_before_links _ ls
+site_before_links e (l ∷ ls) = site_before_links (binary l.operator l.site e l.operand) ls
 
 never_zero : (e : ExpressionTree) (s : SuffixTree) → is_zero (suffixed e s) ≡ false
 never_zero e (an_index s a) = refl
