@@ -1,6 +1,7 @@
 -- Arguments, one after another.
-use Rattle.std.proofs.Common.{◌≡◌, ◌∙◌, refl, sym, ap, ap₂, ℕ, zero, suc, ◌+◌, ◌<◌, ◌≤◌, Bool, true, false, ◌&&◌, List, [], ◌∷◌, ◌++◌, map, drop, length, get_or, Option, Some, None, arith, append_assoc, append-nil}
+use Rattle.std.proofs.Common.{◌≡◌, ◌∙◌, refl, sym, ap, ℕ, zero, suc, ◌+◌, ◌<◌, ◌≤◌, Bool, true, false, ◌&&◌, List, [], ◌∷◌, ◌++◌, map, drop, length, get_or, Option, Some, None, arith, append_assoc, append-nil}
 use Rattle.std.specs.Prelude.{if◌then◌else◌}
+use Rattle.std.proofs.lemmas.List.{drop_all, drop_more}
 use Rattle.px_base.specs.declared.trace.Site.{Site}
 use Rattle.px_syntax.specs.TypedTree.{Expression}
 use Rattle.px_real_expressions.specs.Lexemes.{Lexeme}
@@ -13,7 +14,6 @@ use Rattle.px_real_values.specs.Operands.{Operand, parts}
 use Rattle.px_real_values.specs.Calls.{Given, Evaluated, are_silent, with_passed, with_erased, all_parts, argument, arguments}
 use Rattle.px_real_values.specs.Values.{first_site, valued, given}
 use Rattle.px_real_values.specs.Turns.{behind}
-use Rattle.px_real_values.proofs.ChainLemmas.{drop_next, drop_none}
 
 -- ---- what was evaluated so far, before others
 
@@ -26,13 +26,11 @@ behind_passed es b e rest = ap (λ z. evaluated z (b && rest.all_passed)) (sym (
 pub behind_silent : (es : List Expression) (b : Bool) (ps : List Expression) (rest : Evaluated) → are_silent ps ≡ true → behind es b (with_erased ps rest) ≡ behind es b rest
 behind_silent es b ps rest h = ap (λ z. behind es b (if z then rest else evaluated (ps ++ rest.all) false)) h
 
-none_passed : (b : Bool) → (b && false) ≡ false
-none_passed true = refl
-none_passed false = refl
-
 pub behind_effect : (es : List Expression) (b : Bool) (ps : List Expression) (rest : Evaluated) → are_silent ps ≡ false → behind es b (with_erased ps rest) ≡ behind (es ++ ps) false rest
-behind_effect es b ps rest h =
-    ap (λ z. behind es b (if z then rest else evaluated (ps ++ rest.all) false)) h ∙ ap₂ evaluated (sym (append_assoc es ps rest.all)) (none_passed b)
+behind_effect es true ps rest h =
+    ap (λ z. behind es true (if z then rest else evaluated (ps ++ rest.all) false)) h ∙ ap (λ z. evaluated z false) (sym (append_assoc es ps rest.all))
+behind_effect es false ps rest h =
+    ap (λ z. behind es false (if z then rest else evaluated (ps ++ rest.all) false)) h ∙ ap (λ z. evaluated z false) (sym (append_assoc es ps rest.all))
 
 behind_nothing : (es : List Expression) (b : Bool) → behind es b (evaluated [] true) ≡ evaluated es b
 behind_nothing es true = ap (λ z. evaluated z true) (append-nil es)
@@ -49,10 +47,10 @@ module _ (env : Environment) (all : List Lexeme) where
 
   -- the one at i begins what is left
   given_next : (xs : List Argument) (i : ℕ) (x : Argument) → i < length xs → x ≡ get_or xs i x → given_of (drop i xs) ≡ given_one x ∷ given_of (drop (i + 1) xs)
-  given_next xs i x l is = ap (λ es. given env (expressions_of es)) (drop_next (expression_tree all) xs i x l is)
+  given_next xs i x l is = ap given_of (drop_more xs i x l) ∙ ap (λ z. given_one z ∷ given_of (drop (i + 1) xs)) (sym is)
 
   given_none : (xs : List Argument) (i : ℕ) → length xs ≤ i → given_of (drop i xs) ≡ []
-  given_none xs i l = ap (λ es. given env (expressions_of es)) (drop_none (expression_tree all) xs i l)
+  given_none xs i l = ap given_of (drop_all i xs l)
 
   pub given_length : (xs : List Argument) → length (given_of xs) ≡ length xs
   given_length [] = refl

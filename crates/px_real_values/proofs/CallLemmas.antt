@@ -43,6 +43,10 @@ not_as_many [] (x ∷ xs) l = refl
 not_as_many (p ∷ ps) [] l = refl
 not_as_many (p ∷ ps) (x ∷ xs) l = not_as_many ps xs (λ e. l (ap suc e))
 
+pub as_tested : (b : Bool) (ps : List (Option ProfileType)) (xs : List Given) → (b ≡ true → length ps ≡ length xs) → (b ≡ false → length ps ≢ length xs) → b ≡ fits ps false xs
+as_tested true ps xs yes no = sym (as_many ps xs (yes refl))
+as_tested false ps xs yes no = sym (not_as_many ps xs (no refl))
+
 -- ---- of functions
 
 module _ (env : Environment) (s : Signature) (at : Site) (xs : List Given) where

@@ -6,14 +6,6 @@ use Rattle.px_real_values.specs.Environment.{Environment}
 use Rattle.px_real_values.specs.Operands.{Operand}
 use Rattle.px_real_values.specs.Values.{valued}
 
--- the element at i begins what is left
-pub drop_next : {A B : Type 0} (f : A → B) (xs : List A) (i : ℕ) (x : A) → i < length xs → x ≡ get_or xs i x → map f (drop i xs) ≡ f x ∷ map f (drop (i + 1) xs)
-drop_next f xs i x h e = ap (map f) (drop_more xs i x h) ∙ ap (λ z. f z ∷ map f (drop (i + 1) xs)) (sym e)
-
--- nothing is left
-pub drop_none : {A B : Type 0} (f : A → B) (xs : List A) (i : ℕ) → length xs ≤ i → map f (drop i xs) ≡ []
-drop_none f xs i h = ap (map f) (drop_all i xs h)
-
 module _ (env : Environment) {X V : Type 0} (view : X → V) (many : ExpressionTree → List V → ExpressionTree) where
   -- an operand is that of some tree, which has with these behind it what all of the others have
   abbrev pub Along : Operand → List X → List X → Operand → Type 0
@@ -27,10 +19,11 @@ module _ (env : Environment) {X V : Type 0} (view : X → V) (many : ExpressionT
         Along a xs (drop i xs) b → Along a xs (drop (i + 1) xs) c
     along_more a xs i x b c l is step before e h =
         let (t, all, own) = before e h in
-        (one t (view x), all ∙ ap (many t) (drop_next view xs i x l is) ∙ grows t (view x) (map view (drop (i + 1) xs)), step t own)
+        let rest = map view (drop (i + 1) xs) in
+        (one t (view x), all ∙ ap (λ ys. many t (map view ys)) (drop_more xs i x l) ∙ ap (λ z. many t (view z ∷ rest)) (sym is) ∙ grows t (view x) rest, step t own)
 
   pub along_ends : (ends : (e : ExpressionTree) → many e [] ≡ e) (a : Operand) (xs : List X) (i : ℕ) (b : Operand) → length xs ≤ i → Along a xs (drop i xs) b → (e : ExpressionTree) → a ≡ valued env e →
       b ≡ valued env (many e (map view xs))
   along_ends ends a xs i b l before e h =
       let (t, all, own) = before e h in
-      own ∙ ap (valued env) (sym (all ∙ ap (many t) (drop_none view xs i l) ∙ ends t))
+      own ∙ ap (valued env) (sym (all ∙ ap (λ ys. many t (map view ys)) (drop_all i xs l) ∙ ends t))

@@ -12,7 +12,7 @@ use Rattle.px_real_values.specs.Values.{valued, indexed, is_zero, given, block_o
 use Rattle.px_real_values.specs.Views.{operand_seen, signature_seen}
 use Rattle.px_real_values.proofs.ArgumentLemmas.{given_of, given_length, parts_more, parts_end, arguments_more, arguments_end}
 use Rattle.px_real_values.proofs.CallLemmas.{not_fitting, all_are_passed, some_are_not, input_alone, input_with_some, expected_first, expected_else, block_alone, no_block}
-use Rattle.px_real_values.proofs.ChainLemmas.{along_more, along_ends}
+use Rattle.px_real_values.proofs.ChainLemmas.{along_begins, along_more, along_ends}
 use Rattle.px_real_values.proofs.OperandLemmas.{given_as}
 use Rattle.px_real_values.proofs.values.+operand.Goals as goal
 
@@ -41,6 +41,14 @@ evaluate-returns-in_ok-left-in-Binary g t c =
     ∙ ap (λ z. unless_stopped (valued env (chained (expression_tree all b.first.value) (map (link_tree all) b.before.items))) (λ x. valued_binary env b.operator b.site x (valued env (expression_tree all z)))) c.deref-in-Binary-3.ensures
     ∙ ap (valued env) (sym (ap (expression_tree all) b.is ∙ tree-Binary all b.first b.before b.operator b.site b.right)))
     c.linked.ensures
+
+pub suffixes-loop-i-init : goal.suffixes-loop-i-init
+suffixes-loop-i-init g t c =
+    along_begins (g.E.Environment.sees c.args.environment.now) (suffix_tree (g.E.Environment.tokens c.args.environment.now)) all_suffixed (operand_seen c.args.first) c.args.suffixes.now
+
+pub links-loop-i-init : goal.links-loop-i-init
+links-loop-i-init g t c =
+    along_begins (g.E.Environment.sees c.args.environment.now) (link_tree (g.E.Environment.tokens c.args.environment.now)) chained (operand_seen c.args.first) c.args.links.now
 
 pub suffixes-loop-i-preserved : goal.suffixes-loop-i-preserved
 suffixes-loop-i-preserved g t c =
