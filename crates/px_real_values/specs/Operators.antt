@@ -1,5 +1,5 @@
 -- What operators make of their operands.
-use Rattle.std.specs.Prelude.{ℕ, List, [], ◌∷◌, ◌++◌, Option, Some, None, codes, if◌then◌else◌}
+use Rattle.std.specs.Prelude.{ℕ, Bool, true, false, ◌||◌, List, [], ◌∷◌, ◌++◌, Option, Some, None, codes, if◌then◌else◌}
 use Rattle.px_base.specs.declared.trace.Site.{Site}
 use Rattle.px_expressions.specs.Reading.{or_else}
 use Rattle.px_syntax.specs.declared.typed_expression.Arithmetic.{Arithmetic}
@@ -66,13 +66,23 @@ measure_text M.Alignment = codes "_Alignof"
 
 -- ---- types of operands
 
+abbrev pub own_type : Operand → Option ProfileType
+own_type (of_type t site e) = Some t
+own_type _ = None
+
+abbrev pub is_null : Operand → Bool
+is_null (a_null word site) = true
+is_null _ = false
+
 -- the type at which `==` and `!=` compare: that of an operand that has one of its own
 abbrev pub common_type : Operand → Operand → ProfileType
-common_type (of_type t site e) b = t
-common_type a (of_type t site e) = t
-common_type (a_null word site) b = pointer_to int
-common_type a (a_null word site) = pointer_to int
-common_type a b = int
+common_type a b = or_else (own_type a) (λ t. t) (or_else (own_type b) (λ t. t) (if is_null a || is_null b then pointer_to int else int))
+
+-- the type of a member that is looked for, where it is there; of those of an unknown struct nothing is known
+abbrev pub found_type : Option (Option Member) → Option Known
+found_type None = Some unknown
+found_type (Some None) = None
+found_type (Some (Some m)) = Some (member_type (Some m))
 
 -- the number of the struct that a pointer points to
 abbrev pub struct_behind : ProfileType → Option ℕ
@@ -192,11 +202,9 @@ module _ (env : Environment) where
   abbrev pub member_in : List ℕ → Known → Option (Option Member)
   member_in name k = or_else (record_in k) (λ n. Some (env.member n name)) None
 
-  -- what is made of a member of what is outside, by its type; one that isn't there is a `Stop`, and of an unknown struct nothing is known
+  -- what is made of a member of what is outside, by its type; one that isn't there is a `Stop`
   abbrev pub known_member : Site → List Expression → (Known → Operand) → Option (Option Member) → Operand
-  known_member site ps on None = on unknown
-  known_member site ps on (Some None) = stopped_at (codes ".") site ps
-  known_member site ps on (Some (Some m)) = on (member_type (Some m))
+  known_member site ps on m = or_else (found_type m) on (stopped_at (codes ".") site ps)
 
   abbrev pub behind : List ℕ → Site → List ℕ → Operand → ProfileType × Expression → Operand
   behind text site name a x = or_else (struct_behind x.0) (λ n. member_at n text site x.1 (env.member n name)) (object_of unknown text site (parts env a))

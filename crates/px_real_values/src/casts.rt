@@ -34,6 +34,23 @@ fn outside<'a, E: Environment>(
     })
 }
 
+// The same without parts.
+fn outside_alone<'a, E: Environment>(
+    alloc: Global,
+    environment: &E,
+    known: Known,
+    site: Site,
+) -> Operand<'a>
+    ensures { operand_seen result ≡ Operands.outside known [] (Rules.cast_word (E.sees environment.now)) site }
+{
+    Operand::Outside {
+        known,
+        parts: Vec::new(alloc),
+        word: environment.word_number(b"cast".as_slice()),
+        site,
+    }
+}
+
 // `malloc` of a block, where no pointer to it is wanted.
 fn unwanted_block<'a, E: Environment>(
     alloc: Global,
@@ -71,14 +88,36 @@ fn cast_to<'a, E: Environment>(
             kind: own,
             site: at,
             value,
-        } if same_type(kind, own) => Ok(Operand::OfType {
-            kind: own,
-            site: at,
-            value,
+        } => {
+            let operand = Operand::OfType {
+                kind: own,
+                site: at,
+                value,
+            };
+            if same_type(kind, own) {
+                Ok(operand)
+            } else {
+                outside(alloc, environment, known(kind), site, operand)
+            }
+        }
+        Operand::Zero { site: at } => Ok(if is_pointer(kind) {
+            null(kind, site)
+        } else {
+            Operand::Zero { site: at }
         }),
-        Operand::Zero { .. } | Operand::Null { .. } if is_pointer(kind) => Ok(null(kind, site)),
-        Operand::Zero { site: at } => Ok(Operand::Zero { site: at }),
-        Operand::Test { condition } if is_int(kind) => Ok(Operand::Test { condition }),
+        Operand::Null { .. } => Ok(if is_pointer(kind) {
+            null(kind, site)
+        } else {
+            outside_alone(alloc, environment, known(kind), site)
+        }),
+        Operand::Test { condition } => {
+            let operand = Operand::Test { condition };
+            if is_int(kind) {
+                Ok(operand)
+            } else {
+                outside(alloc, environment, known(kind), site, operand)
+            }
+        }
         Operand::Block { block, site: at } => {
             if !points_to(kind, block) {
                 return Ok(unwanted_block(alloc, environment, at));
@@ -105,9 +144,13 @@ fn cast_away<'a, E: Environment>(
     ensures { IfOk result (λ a. operand_seen a ≡ Rules.cast_away (E.sees environment.now) (spelled_seen spelled) site (operand_seen operand.entry)) }
 {
     match operand {
-        Operand::Zero { .. } | Operand::Null { .. } if spelled.is_starred => Ok(Operand::Null {
-            word: environment.word_number(b"cast".as_slice()),
-            site,
+        Operand::Zero { .. } | Operand::Null { .. } => Ok(if spelled.is_starred {
+            Operand::Null {
+                word: environment.word_number(b"cast".as_slice()),
+                site,
+            }
+        } else {
+            outside_alone(alloc, environment, Known::Seen(spelled.shape), site)
         }),
         Operand::Block { site: at, .. } => Ok(unwanted_block(alloc, environment, at)),
         other => outside(alloc, environment, Known::Seen(spelled.shape), site, other),

@@ -156,6 +156,17 @@ fn member_in<E: Environment>(
     Some(environment.member(number, name))
 }
 
+// The type of that member, where it is there; of those of an unknown struct nothing is known.
+fn found_type(member: Option<Option<Member>>) -> Option<Known>
+    ensures { result ≡ Rules.found_type member }
+{
+    match member {
+        Some(Some(member)) => Some(member_type(Some(member))),
+        Some(None) => None,
+        None => Some(unknown()),
+    }
+}
+
 // The type of that member, as far as it is known.
 fn type_in<E: Environment>(environment: &E, name: &[u8], known: Known) -> Known
     ensures { result ≡ or_else (Rules.member_in (E.sees environment.now) name.now known) Types.member_type Types.unknown }
@@ -215,13 +226,13 @@ fn inner_member<'a, E: Environment>(
     ensures { IfOk result (λ a. operand_seen a ≡ Rules.known_member (E.sees environment.now) site (Operands.reached known (typed_expression pointer) block access ∷ []) (λ m. Operands.a_member m (typed_expression pointer) block access ((E.sees environment.now).word_number (codes ".")) site) (Rules.member_in (E.sees environment.now) name.now known)) }
 {
     let text = b".".as_slice();
-    match member_in(environment, name, known) {
-        Some(None) => {
+    match found_type(member_in(environment, name, known)) {
+        None => {
             let part = reached(alloc, known, pointer, block, access)?;
             Ok(stopped_at(environment, text, site, alone(alloc, part)?))
         }
-        _ => Ok(Operand::Member {
-            known: type_in(environment, name, known),
+        Some(known) => Ok(Operand::Member {
+            known,
             pointer,
             block,
             access,
@@ -244,10 +255,10 @@ fn outside_member<'a, E: Environment>(
     let text = b".".as_slice();
     let known = operand.known();
     let parts = operand.parts(alloc, environment)?;
-    match member_in(environment, name, known) {
-        Some(None) => Ok(stopped_at(environment, text, site, parts)),
-        _ => Ok(Operand::Outside {
-            known: type_in(environment, name, known),
+    match found_type(member_in(environment, name, known)) {
+        None => Ok(stopped_at(environment, text, site, parts)),
+        Some(known) => Ok(Operand::Outside {
+            known,
             parts,
             word: environment.word_number(text),
             site,

@@ -1,4 +1,4 @@
-ghost use Rattle.std.specs.Prelude.{◌≡◌, ◌∷◌, ◌++◌, [], map, is_some, IfOk, OnOk};
+ghost use Rattle.std.specs.Prelude.{◌≡◌, ◌∷◌, ◌++◌, [], map, is_some, IfOk, OnOk, if◌then◌else◌};
 ghost use Rattle.px_syntax.specs.TypedTree as T;
 ghost use Rattle.px_syntax.specs.TypedViews.{typed_expression, typed_condition, cells};
 ghost use Rattle.px_real_values.specs.Operands as Rules;
@@ -98,6 +98,29 @@ pub fn alone(
     Ok(all)
 }
 
+// One more expression.
+pub fn put(
+    all: &mut Vec<TypedExpression>,
+    expression: TypedExpression,
+) -> Result<(), NoMemory>
+    ensures { OnOk result (map typed_expression all.new.items ≡ map typed_expression all.old.items ++ typed_expression expression ∷ []) }
+{
+    all.push(expression)?;
+    Ok(())
+}
+
+// More expressions.
+pub fn put_all(
+    all: &mut Vec<TypedExpression>,
+    more: Vec<TypedExpression>,
+) -> Result<(), NoMemory>
+    ensures { OnOk result (map typed_expression all.new.items ≡ map typed_expression all.old.items ++ map typed_expression more.items) }
+{
+    let mut more = more;
+    all.append(&mut more)?;
+    Ok(())
+}
+
 // A `Stop`.
 #[tactic(auto, using(px_syntax::proofs::TypedEquations::typed_trees))]
 pub fn stop(parts: Vec<TypedExpression>, word: u32, site: Site) -> TypedExpression
@@ -113,6 +136,36 @@ pub fn truth(alloc: Global, condition: Condition) -> Result<TypedExpression, NoM
     Ok(TypedExpression::Truth {
         condition: Box::new(alloc, condition)?,
     })
+}
+
+// The `Stop` where a value of another type is needed.
+fn mistyped<E: Environment>(
+    alloc: Global,
+    environment: &E,
+    first: Site,
+    value: TypedExpression,
+) -> Result<TypedExpression, NoMemory>
+    ensures { IfOk result (λ e. typed_expression e ≡ Rules.stop (typed_expression value ∷ []) (Rules.type_word (E.sees environment.now)) first) }
+{
+    let parts = alone(alloc, value)?;
+    Ok(stop(parts, environment.word_number(b"type".as_slice()), first))
+}
+
+// A value as a condition: that of a pointer, or of an int.
+fn tested(
+    alloc: Global,
+    is_pointer: bool,
+    value: TypedExpression,
+    site: Site,
+) -> Result<Condition, NoMemory>
+    ensures { IfOk result (λ c. typed_condition c ≡ (if is_pointer then T.pointer (typed_expression value) site else T.word (typed_expression value) site)) }
+{
+    let operand = Box::new(alloc, value)?;
+    if is_pointer {
+        Ok(Condition::Pointer { operand, site })
+    } else {
+        Ok(Condition::Word { operand, site })
+    }
 }
 
 // A number as a constant, where an int has it.
@@ -296,6 +349,7 @@ impl<'a> Operand<'a> {
     }
 
     // Whether it is a value of this type.
+    #[tactic(auto, using(crate::proofs::OperandLemmas::tests))]
     pub fn is_typed<E: Environment>(&self, environment: &E, wanted: ProfileType) -> bool
         ensures { result ≡ is_some (Rules.typed_as (E.sees environment.now) wanted (operand_seen self.now)) }
     {
@@ -321,13 +375,15 @@ impl<'a> Operand<'a> {
     ) -> Result<TypedExpression, NoMemory>
         ensures { IfOk result (λ e. typed_expression e ≡ Rules.unwanted (E.sees environment.now) first (operand_seen self.entry)) }
     {
-        let word = environment.word_number(b"type".as_slice());
         match self {
-            Operand::OfType { value, .. } => Ok(stop(alone(alloc, value)?, word, first)),
-            Operand::Zero { .. } => Ok(stop(Vec::new(alloc), word, first)),
+            Operand::OfType { value, .. } => mistyped(alloc, environment, first, value),
+            Operand::Zero { .. } => {
+                let word = environment.word_number(b"type".as_slice());
+                Ok(stop(Vec::new(alloc), word, first))
+            }
             Operand::Test { condition } => {
                 let value = truth(alloc, condition)?;
-                Ok(stop(alone(alloc, value)?, word, first))
+                mistyped(alloc, environment, first, value)
             }
             Operand::Block { site, .. } => {
                 let word = environment.word_number(b"malloc".as_slice());
@@ -374,16 +430,38 @@ impl<'a> Operand<'a> {
         ensures { IfOk result (λ e. typed_expression e ≡ Rules.needed (E.sees environment.now) first wanted (operand_seen self.entry)) }
     {
         match self {
-            Operand::OfType { kind, value, .. } if same_type(wanted, kind) => Ok(value),
-            Operand::Zero { .. } | Operand::Null { .. } if is_pointer(wanted) => {
-                Ok(TypedExpression::Null)
+            Operand::OfType { kind, value, .. } => {
+                if same_type(wanted, kind) {
+                    Ok(value)
+                } else {
+                    mistyped(alloc, environment, first, value)
+                }
             }
-            Operand::Zero { .. } => Ok(TypedExpression::Constant { value: 0 }),
-            Operand::Test { condition } if is_int(wanted) => truth(alloc, condition),
-            Operand::Block { block, site } if points_to(wanted, block) => {
+            Operand::Zero { .. } => Ok(if is_pointer(wanted) {
+                TypedExpression::Null
+            } else {
+                TypedExpression::Constant { value: 0 }
+            }),
+            Operand::Null { word, site } => Ok(if is_pointer(wanted) {
+                TypedExpression::Null
+            } else {
+                stop(Vec::new(alloc), word, site)
+            }),
+            Operand::Test { condition } => {
+                let value = truth(alloc, condition)?;
+                if is_int(wanted) {
+                    Ok(value)
+                } else {
+                    mistyped(alloc, environment, first, value)
+                }
+            }
+            Operand::Block { block, site } => Ok(if points_to(wanted, block) {
                 let block = type_id(environment, block);
-                Ok(TypedExpression::Allocate { block, site })
-            }
+                TypedExpression::Allocate { block, site }
+            } else {
+                let word = environment.word_number(b"malloc".as_slice());
+                stop(Vec::new(alloc), word, site)
+            }),
             other => other.unwanted(alloc, environment, first),
         }
     }
@@ -396,16 +474,20 @@ impl<'a> Operand<'a> {
     ) -> Result<Condition, NoMemory>
         ensures { IfOk result (λ c. typed_condition c ≡ Rules.deciding (E.sees environment.now) (operand_seen self.entry)) }
     {
-        let (is_pointer, site, operand) = match self {
-            Operand::Test { condition } => return Ok(condition),
-            Operand::OfType { kind, site, value } => (is_pointer(kind), site, value),
-            Operand::Zero { site } => (false, site, TypedExpression::Constant { value: 0 }),
-            Operand::Null { site, .. } => (true, site, TypedExpression::Null),
+        match self {
+            Operand::Test { condition } => Ok(condition),
+            Operand::OfType { kind, site, value } => tested(alloc, is_pointer(kind), value, site),
+            Operand::Zero { site } => {
+                tested(alloc, false, TypedExpression::Constant { value: 0 }, site)
+            }
+            Operand::Null { site, .. } => tested(alloc, true, TypedExpression::Null, site),
             Operand::Block { site, .. } => {
                 let word = environment.word_number(b"malloc".as_slice());
-                (false, site, stop(Vec::new(alloc), word, site))
+                tested(alloc, false, stop(Vec::new(alloc), word, site), site)
             }
-            Operand::Named { word, site, .. } => (false, site, stop(Vec::new(alloc), word, site)),
+            Operand::Named { word, site, .. } => {
+                tested(alloc, false, stop(Vec::new(alloc), word, site), site)
+            }
             Operand::Member {
                 known,
                 pointer,
@@ -415,28 +497,24 @@ impl<'a> Operand<'a> {
                 site,
             } => {
                 let part = reached(alloc, known, pointer, block, access)?;
-                (false, site, stop(alone(alloc, part)?, word, site))
+                tested(alloc, false, stop(alone(alloc, part)?, word, site), site)
             }
             Operand::Struct {
                 pointer,
                 word,
                 site,
                 ..
-            } => (false, site, stop(alone(alloc, pointer)?, word, site)),
+            } => tested(alloc, false, stop(alone(alloc, pointer)?, word, site), site),
             Operand::Outside {
                 parts, word, site, ..
             }
             | Operand::Object {
                 parts, word, site, ..
             }
-            | Operand::Stopped { parts, word, site } => (false, site, stop(parts, word, site)),
-        };
-        let operand = Box::new(alloc, operand)?;
-        Ok(if is_pointer {
-            Condition::Pointer { operand, site }
-        } else {
-            Condition::Word { operand, site }
-        })
+            | Operand::Stopped { parts, word, site } => {
+                tested(alloc, false, stop(parts, word, site), site)
+            }
+        }
     }
 
     // What `free` takes, with its block type.
@@ -449,12 +527,9 @@ impl<'a> Operand<'a> {
         ensures { IfOk result (λ x. (x.0, typed_expression x.1) ≡ Rules.freed (E.sees environment.now) first (operand_seen self.entry)) }
     {
         match self {
-            Operand::OfType { kind, site, value } => match pointee(kind) {
+            Operand::OfType { kind, value, .. } => match pointee(kind) {
                 Some(block) => Ok((block, value)),
-                None => {
-                    let whole = Operand::OfType { kind, site, value };
-                    Ok((int(), whole.unwanted(alloc, environment, first)?))
-                }
+                None => Ok((int(), mistyped(alloc, environment, first, value)?)),
             },
             Operand::Zero { .. } | Operand::Null { .. } => Ok((int(), TypedExpression::Null)),
             other => Ok((int(), other.unwanted(alloc, environment, first)?)),

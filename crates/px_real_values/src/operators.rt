@@ -1,4 +1,4 @@
-ghost use Rattle.std.specs.Prelude.{◌≡◌, ◌++◌, ◌&&◌, [], map, is_some, codes, IfOk};
+ghost use Rattle.std.specs.Prelude.{◌≡◌, ◌++◌, ◌&&◌, [], map, is_some, codes, IfOk, if◌then◌else◌};
 ghost use Rattle.px_syntax.specs.TypedTree as T;
 ghost use Rattle.px_syntax.specs.TypedViews.{typed_expression, typed_condition};
 ghost use Rattle.px_real_values.specs.Operators as Rules;
@@ -8,7 +8,7 @@ ghost use Rattle.px_real_values.specs.Views.{operand_seen};
 
 use crate::environment::Environment;
 use crate::members::indirected;
-use crate::operand::{Operand, Turn};
+use crate::operand::{Operand, Turn, put_all};
 use crate::types::{int, is_pointer, unknown};
 use crate::words::operator_text;
 use px_base::Site;
@@ -61,8 +61,8 @@ fn both_parts<'a, E: Environment>(
     ensures { IfOk result (λ v. map typed_expression v.items ≡ Operands.parts (E.sees environment.now) (operand_seen left.entry) ++ Operands.parts (E.sees environment.now) (operand_seen right.entry)) }
 {
     let mut parts = left.parts(alloc, environment)?;
-    let mut more = right.parts(alloc, environment)?;
-    parts.append(&mut more)?;
+    let more = right.parts(alloc, environment)?;
+    put_all(&mut parts, more)?;
     Ok(parts)
 }
 
@@ -135,6 +135,24 @@ fn divided<'a, E: Environment>(
     stopped_both(alloc, environment, operator, site, left, right)
 }
 
+// The comparison of two values of a type.
+fn comparison<'a, E: Environment>(
+    alloc: Global,
+    environment: &E,
+    kind: ProfileType,
+    relation: Relation,
+    site: Site,
+    left: Operand<'a>,
+    right: Operand<'a>,
+) -> Result<Operand<'a>, NoMemory>
+    ensures { IfOk result (λ a. operand_seen a ≡ Operands.a_test (T.compare relation (Operands.needed (E.sees environment.now) site kind (operand_seen left.entry)) (Operands.needed (E.sees environment.now) site kind (operand_seen right.entry)) site)) }
+{
+    let left = left.needed(alloc, environment, site, kind)?;
+    let right = right.needed(alloc, environment, site, kind)?;
+    let condition = Condition::compare(alloc, relation, left, right, site)?;
+    Ok(Operand::Test { condition })
+}
+
 // Two values of a type are compared; other operands are outside.
 fn compared<'a, E: Environment>(
     alloc: Global,
@@ -149,25 +167,46 @@ fn compared<'a, E: Environment>(
     ensures { IfOk result (λ a. operand_seen a ≡ Rules.compared (E.sees environment.now) kind relation operator site (operand_seen left.entry) (operand_seen right.entry)) }
 {
     if are_typed(environment, kind, &left, &right) {
-        let left = left.needed(alloc, environment, site, kind)?;
-        let right = right.needed(alloc, environment, site, kind)?;
-        let condition = Condition::compare(alloc, relation, left, right, site)?;
-        return Ok(Operand::Test { condition });
+        return comparison(alloc, environment, kind, relation, site, left, right);
     }
     outside_both(alloc, environment, operator, site, left, right)
+}
+
+fn own_type<'a>(operand: &Operand<'a>) -> Option<ProfileType>
+    ensures { result ≡ Rules.own_type (operand_seen operand.now) }
+{
+    match operand {
+        Operand::OfType { kind, .. } => Some(*kind),
+        _ => None,
+    }
+}
+
+fn is_null<'a>(operand: &Operand<'a>) -> bool
+    ensures { result ≡ Rules.is_null (operand_seen operand.now) }
+{
+    match operand {
+        Operand::Null { .. } => true,
+        _ => false,
+    }
 }
 
 // The type at which `==` and `!=` compare.
 fn common_type<'a>(left: &Operand<'a>, right: &Operand<'a>) -> ProfileType
     ensures { result ≡ Rules.common_type (operand_seen left.now) (operand_seen right.now) }
 {
-    match (left, right) {
-        (Operand::OfType { kind, .. }, _) | (_, Operand::OfType { kind, .. }) => *kind,
-        (Operand::Null { .. }, _) | (_, Operand::Null { .. }) => ProfileType {
+    if let Some(kind) = own_type(left) {
+        return kind;
+    }
+    if let Some(kind) = own_type(right) {
+        return kind;
+    }
+    if is_null(left) || is_null(right) {
+        ProfileType {
             base: Base::Int,
             stars: 1,
-        },
-        _ => int(),
+        }
+    } else {
+        int()
     }
 }
 
@@ -185,10 +224,21 @@ fn equated<'a, E: Environment>(
     ensures { IfOk result (λ a. operand_seen a ≡ Rules.equated (E.sees environment.now) of_ints of_places operator site (operand_seen left.entry) (operand_seen right.entry)) }
 {
     let kind = common_type(&left, &right);
-    let relation = if is_pointer(kind) { of_places } else { of_ints };
+    let relation = relation_at(kind, of_ints, of_places);
     compared(
         alloc, environment, kind, relation, operator, site, left, right,
     )
+}
+
+// The relation at a type.
+fn relation_at(kind: ProfileType, of_ints: Relation, of_places: Relation) -> Relation
+    ensures { result ≡ (if Types.is_pointer kind then of_places else of_ints) }
+{
+    if is_pointer(kind) {
+        of_places
+    } else {
+        of_ints
+    }
 }
 
 // `&&`.
@@ -295,6 +345,24 @@ pub fn binary<'a, E: Environment>(
     }
 }
 
+// `-` before an int.
+fn negative<'a, E: Environment>(
+    alloc: Global,
+    environment: &E,
+    site: Site,
+    operand: Operand<'a>,
+) -> Result<Operand<'a>, NoMemory>
+    ensures { IfOk result (λ a. operand_seen a ≡ Operands.of_type Types.int site (T.negated (Operands.needed (E.sees environment.now) site Types.int (operand_seen operand.entry)))) }
+{
+    let operand = operand.needed(alloc, environment, site, int())?;
+    let operand = Box::new(alloc, operand)?;
+    Ok(Operand::OfType {
+        kind: int(),
+        site,
+        value: TypedExpression::Negate { operand },
+    })
+}
+
 // `-` before an operand.
 fn negated<'a, E: Environment>(
     alloc: Global,
@@ -305,16 +373,9 @@ fn negated<'a, E: Environment>(
     ensures { IfOk result (λ a. operand_seen a ≡ Rules.negated (E.sees environment.now) site (operand_seen operand.entry)) }
 {
     if operand.is_typed(environment, int()) {
-        let operand = operand.needed(alloc, environment, site, int())?;
-        let operand = Box::new(alloc, operand)?;
-        return Ok(Operand::OfType {
-            kind: int(),
-            site,
-            value: TypedExpression::Negate { operand },
-        });
+        return negative(alloc, environment, site, operand);
     }
-    let parts = operand.parts(alloc, environment)?;
-    Ok(outside_of(environment, b"-".as_slice(), site, parts))
+    around(alloc, environment, b"-".as_slice(), site, operand)
 }
 
 // `!`, which takes any value.

@@ -1,14 +1,15 @@
-ghost use Rattle.std.specs.Prelude.{◌≡◌, List, IfOk};
+ghost use Rattle.std.specs.Prelude.{◌≡◌, List, map, IfOk};
 ghost use Rattle.px_real_expressions.specs.Lexemes.{Lexeme};
 ghost use Rattle.px_real_symbols.specs.Symbols.{lexemes};
 ghost use Rattle.px_real_blocks.specs.Parts.{no_types};
-ghost use Rattle.px_real_declaring.specs.Trees.{declarator_tree, declaration_tree};
+ghost use Rattle.px_real_declarations.specs.DeclarationTree.{declaration};
+ghost use Rattle.px_real_declaring.specs.Trees.{specifier_tree, declarator_tree, declared_tree, declaration_tree};
 ghost use Rattle.px_real_types.specs.Scopes.{texts};
 ghost use Rattle.px_real_values.specs.Spelled as Rules;
 ghost use Rattle.px_real_values.specs.Views.{spelled_seen};
 
 use crate::environment::TypeSpelled;
-use px_real_declaring::{Declaration, DeclarationFault, Declarator, parameter_of};
+use px_real_declaring::{Declaration, DeclarationFault, Declarator, Declared, Specifier, parameter_of};
 use px_real_symbols::TypeNames;
 use px_real_tokens::Token;
 use px_real_types::{Scope, Shape, Texts, declared_shape, specified};
@@ -24,7 +25,7 @@ fn is_nothing(declarator: &Declarator) -> bool
     match declarator {
         Declarator::NoName => true,
         Declarator::Suffixed { core, suffixes } => suffixes.is_empty() && is_nothing(core),
-        _ => false,
+        Declarator::Name { .. } | Declarator::Inner { .. } | Declarator::Pointer { .. } => false,
     }
 }
 
@@ -56,20 +57,32 @@ fn nothing_seen() -> TypeSpelled
 fn spelled_in<S: Scope>(scope: &S, on: Texts, declaration: &Declaration) -> TypeSpelled
     ensures { spelled_seen result ≡ Rules.spelled_in (S.meanings scope.now) (declaration_tree (texts on.entry) declaration.now) }
 {
-    let Declaration::Declaration {
-        specifiers,
-        declared,
-    } = declaration
-    else {
-        return nothing_seen();
-    };
+    match declaration {
+        Declaration::Declaration {
+            specifiers,
+            declared,
+        } => spelled_by(scope, on, specifiers, declared),
+        Declaration::Assertion { .. } => nothing_seen(),
+    }
+}
+
+// What these specifiers spell, and the one that is declared.
+fn spelled_by<S: Scope>(
+    scope: &S,
+    on: Texts,
+    specifiers: &[Specifier],
+    declared: &[Declared],
+) -> TypeSpelled
+    ensures { spelled_seen result ≡ Rules.spelled_in (S.meanings scope.now) (declaration (map (specifier_tree (texts on.entry)) specifiers.now) (map (declared_tree (texts on.entry)) declared.now)) }
+{
     if declared.len() != 1 {
         return nothing_seen();
     }
+    let one = &declared[0];
     let shape = specified(scope, on, specifiers);
     TypeSpelled {
-        shape: declared_shape(&declared[0], on, shape),
-        is_starred: is_starred(&declared[0].declarator),
+        shape: declared_shape(one, on, shape),
+        is_starred: is_starred(&one.declarator),
     }
 }
 

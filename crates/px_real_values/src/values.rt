@@ -1,9 +1,9 @@
 ghost use Rattle.std.specs.Prelude.{◌≡◌, ◌++◌, List, [], map, codes, get_or, None, IfOk};
+ghost use Rattle.px_expressions.specs.Terminals.{is_in};
 ghost use Rattle.px_real_expressions.specs.Lexemes.{Lexeme};
 ghost use Rattle.px_real_symbols.specs.Symbols.{held_in};
 ghost use Rattle.px_real_values.specs.Environment.{spelled};
-ghost use Rattle.px_real_values.specs.Operators.{valued_binary, stopped_at, cast_as};
-ghost use Rattle.px_real_values.specs.Turns.{with_suffix};
+ghost use Rattle.px_real_values.specs.Operators.{valued_binary, stopped_at, step_text, arrowed, cast_as};
 ghost use Rattle.px_real_expressions.specs.ExpressionTree.{ExpressionTree, expressions_of};
 ghost use Rattle.px_real_reading.specs.Trees.{expression_tree, suffix_tree, link_tree, chained, all_suffixed, suffixed};
 ghost use Rattle.px_syntax.specs.TypedViews.{typed_expression};
@@ -12,17 +12,17 @@ ghost use Rattle.px_real_values.specs.Operands as Operands;
 ghost use Rattle.px_real_values.specs.Calls as Calls;
 ghost use Rattle.px_real_values.specs.Views.{operand_seen, signature_seen};
 
-use crate::calls::{are_silent, fits, gives};
+use crate::calls::{fits, give, gives};
 use crate::casts::cast_as;
 use crate::environment::{Callee, Environment, Library, Meaning, Signature};
 use crate::known::Known;
 use crate::members::{arrowed, dotted, indirected, object_of};
-use crate::operand::{Operand, Turn, counted};
+use crate::operand::{Operand, Turn, counted, put_all};
 use crate::operators::{binary, outside_of, prefixed, stopped_at};
 use crate::types::{block_in, element, int, number_of, unknown};
 use crate::words::{assignment_text, measure_text, step_text};
 use px_base::Site;
-use px_real_expressions::{Measure, Operator};
+use px_real_expressions::{Measure, Operator, Step};
 use px_real_reading::{Expression, Link, Suffix};
 use px_real_symbols::Span;
 use px_real_types::ProfileType;
@@ -32,7 +32,7 @@ use std::alloc::Global;
 
 // The first token of an expression.
 #[cycle(first_site)]
-#[tactic(auto, using(px_real_reading::proofs::TreeEquations::trees))]
+#[tactic(auto, using(px_real_reading::proofs::TreeEquations::trees, crate::proofs::SiteLemmas::chains))]
 fn first_site(expression: &Expression) -> Site
     ensures { (all : List Lexeme) → result ≡ Rules.first_site (expression_tree all expression.now) }
 {
@@ -59,7 +59,7 @@ fn first_site(expression: &Expression) -> Site
 
 // Whether it is the constant 0, in parentheses or not.
 #[cycle(is_zero)]
-#[tactic(auto, using(px_real_reading::proofs::TreeEquations::trees))]
+#[tactic(auto, using(px_real_reading::proofs::TreeEquations::trees, crate::proofs::SiteLemmas::chains))]
 fn is_zero(expression: &Expression) -> bool
     ensures { (all : List Lexeme) → result ≡ Rules.is_zero (expression_tree all expression.now) }
 {
@@ -76,8 +76,14 @@ fn block_of_type<E: Environment>(environment: &E, known: Known) -> Option<Profil
 {
     let block = block_in(known)?;
     match number_of(block) {
-        Some(number) if !environment.is_defined(number) => None,
-        _ => Some(block),
+        Some(number) => {
+            if environment.is_defined(number) {
+                Some(block)
+            } else {
+                None
+            }
+        }
+        None => Some(block),
     }
 }
 
@@ -148,6 +154,13 @@ fn meant<'a, E: Environment>(
     }
 }
 
+// Whether a built-in form evaluates nothing and has a value.
+fn is_valued_form(word: &[u8]) -> bool
+    ensures { result ≡ is_in Rules.valued_forms word.now }
+{
+    word == b"__builtin_offsetof".as_slice() || word == b"__builtin_types_compatible_p".as_slice()
+}
+
 // A built-in form.
 fn formed<'a, E: Environment>(
     alloc: Global,
@@ -157,9 +170,7 @@ fn formed<'a, E: Environment>(
 ) -> Operand<'a>
     ensures { operand_seen result ≡ Rules.formed (E.sees environment.now) word.now site }
 {
-    if word == b"__builtin_offsetof".as_slice()
-        || word == b"__builtin_types_compatible_p".as_slice()
-    {
+    if is_valued_form(word) {
         outside_of(environment, word, site, Vec::new(alloc))
     } else {
         stopped_at(environment, word, site, Vec::new(alloc))
@@ -182,9 +193,8 @@ fn indexed<'a, E: Environment>(
         return indirected(alloc, environment, text, site, array);
     }
     let known = element(array.known());
-    let mut index = index;
     let mut parts = array.parts(alloc, environment)?;
-    parts.append(&mut index)?;
+    put_all(&mut parts, index)?;
     Ok(object_of(environment, known, text, site, parts))
 }
 
@@ -292,7 +302,7 @@ pub fn evaluate<'a, E: Environment>(
         } => {
             let start = evaluate(alloc, environment, first)?;
             let left = links(alloc, environment, before, start)?;
-            linked(alloc, environment, *operator, *site, left, right)
+            linked(alloc, environment, *operator, *site, right, left)
         }
         Expression::Choice {
             site, condition, ..
@@ -360,6 +370,7 @@ fn suffixes<'a, E: Environment>(
 
 // An operand with a suffix after it.
 #[cycle(operand)]
+#[tactic(auto, using(px_real_reading::proofs::TreeEquations::trees))]
 fn suffix<'a, E: Environment>(
     alloc: Global,
     environment: &'a E,
@@ -371,43 +382,86 @@ fn suffix<'a, E: Environment>(
 {
     match suffix {
         Suffix::Member { site, name } => dotted(alloc, environment, *site, name, left),
-        Suffix::Step { step, site } => {
-            let parts = left.pointer_parts(alloc, environment)?;
-            Ok(stopped_at(environment, step_text(*step), *site, parts))
+        Suffix::Step { step, site } => stepped(alloc, environment, *step, *site, left),
+        Suffix::Index { site, index } => element_at(alloc, environment, *site, index, left),
+        Suffix::Call { site, arguments } => call(alloc, environment, *site, arguments, left),
+        Suffix::PointerMember { site, name } => {
+            pointed_member(alloc, environment, *site, name, left)
         }
-        _ => match left.turn(alloc)? {
-            Turn::Stops(stopped) => Ok(stopped),
-            Turn::GoesOn(left) => with_suffix(alloc, environment, suffix, left),
-        },
     }
 }
 
-// An operand that is no `Stop` with a suffix after it that takes its value.
+// `p++` and `p--`.
+fn stepped<'a, E: Environment>(
+    alloc: Global,
+    environment: &E,
+    step: Step,
+    site: Site,
+    operand: Operand<'a>,
+) -> Result<Operand<'a>, NoMemory>
+    ensures { IfOk result (λ a. operand_seen a ≡ stopped_at (E.sees environment.now) (step_text step) site (Operands.pointer_parts (E.sees environment.now) (operand_seen operand.entry))) }
+{
+    let parts = operand.pointer_parts(alloc, environment)?;
+    Ok(stopped_at(environment, step_text(step), site, parts))
+}
+
+// `p->m`, where `p` may be a `Stop`.
+fn pointed_member<'a, E: Environment>(
+    alloc: Global,
+    environment: &E,
+    site: Site,
+    name: &Name,
+    pointer: Operand<'a>,
+) -> Result<Operand<'a>, NoMemory>
+    ensures { IfOk result (λ a. operand_seen a ≡ Operands.unless_stopped (operand_seen pointer.entry) (arrowed (E.sees environment.now) site name.now)) }
+{
+    match pointer.turn(alloc)? {
+        Turn::Stops(stopped) => Ok(stopped),
+        Turn::GoesOn(pointer) => arrowed(alloc, environment, site, name, pointer),
+    }
+}
+
+// `a[i]`, where `a` may be a `Stop`.
 #[cycle(operand)]
-fn with_suffix<'a, E: Environment>(
+fn element_at<'a, E: Environment>(
     alloc: Global,
     environment: &'a E,
-    suffix: &Suffix,
-    left: Operand<'a>,
+    site: Site,
+    index: &Expression,
+    array: Operand<'a>,
 ) -> Result<Operand<'a>, NoMemory>
-    ensures { IfOk result (λ a. operand_seen a ≡ with_suffix (E.sees environment.entry.now) (suffix_tree (E.tokens environment.entry.now) suffix.now) (operand_seen left.entry)) }
+    ensures { IfOk result (λ a. operand_seen a ≡ Operands.unless_stopped (operand_seen array.entry) (Rules.indexed (E.sees environment.entry.now) (Rules.is_zero (expression_tree (E.tokens environment.entry.now) index.now)) site (Operands.parts (E.sees environment.entry.now) (Rules.valued (E.sees environment.entry.now) (expression_tree (E.tokens environment.entry.now) index.now))))) }
 {
-    match suffix {
-        Suffix::Index { site, index } => {
-            let parts = evaluate(alloc, environment, index)?.parts(alloc, environment)?;
-            indexed(alloc, environment, is_zero(index), *site, parts, left)
+    match array.turn(alloc)? {
+        Turn::Stops(stopped) => Ok(stopped),
+        Turn::GoesOn(array) => {
+            let value = evaluate(alloc, environment, index)?;
+            let parts = value.parts(alloc, environment)?;
+            indexed(alloc, environment, is_zero(index), site, parts, array)
         }
-        Suffix::Call { site, arguments } => {
-            call(alloc, environment, *site, arguments, left)
-        }
-        Suffix::PointerMember { site, name } => arrowed(alloc, environment, *site, name, left),
-        _ => Ok(left),
+    }
+}
+
+// A call, at its parenthesis, of what may be a `Stop`.
+#[cycle(operand)]
+fn call<'a, E: Environment>(
+    alloc: Global,
+    environment: &'a E,
+    site: Site,
+    arguments: &[Expression],
+    function: Operand<'a>,
+) -> Result<Operand<'a>, NoMemory>
+    ensures { IfOk result (λ a. operand_seen a ≡ Operands.unless_stopped (operand_seen function.entry) (Calls.call_of (E.sees environment.entry.now) site (Rules.block_of (E.sees environment.entry.now) (expressions_of (map (expression_tree (E.tokens environment.entry.now)) arguments.now))) (Rules.given (E.sees environment.entry.now) (expressions_of (map (expression_tree (E.tokens environment.entry.now)) arguments.now))))) }
+{
+    match function.turn(alloc)? {
+        Turn::Stops(stopped) => Ok(stopped),
+        Turn::GoesOn(function) => call_of(alloc, environment, site, arguments, function),
     }
 }
 
 // A call of what is no `Stop`, at its parenthesis.
 #[cycle(operand)]
-fn call<'a, E: Environment>(
+fn call_of<'a, E: Environment>(
     alloc: Global,
     environment: &'a E,
     site: Site,
@@ -453,8 +507,8 @@ fn no_call<'a, E: Environment>(
     let mut all = before;
     for i in 0..arguments.len() {
         let argument = evaluate(alloc, environment, &arguments[i])?;
-        let mut parts = argument.parts(alloc, environment)?;
-        all.append(&mut parts)?;
+        let parts = argument.parts(alloc, environment)?;
+        put_all(&mut all, parts)?;
     }
     Ok(stopped_at(environment, text, at, all))
 }
@@ -478,19 +532,9 @@ fn function_call<'a, E: Environment>(
     let mut all_passed = true;
     for i in 0..arguments.len() {
         let given = evaluate(alloc, environment, &arguments[i])?;
-        match parameter(signature, i) {
-            Some(kind) => {
-                let first = first_site(&arguments[i]);
-                all.push(given.needed(alloc, environment, first, kind)?)?;
-            }
-            None => {
-                let mut parts = given.parts(alloc, environment)?;
-                if !are_silent(&parts) {
-                    all.append(&mut parts)?;
-                    all_passed = false;
-                }
-            }
-        }
+        let first = first_site(&arguments[i]);
+        let kind = parameter(signature, i);
+        all_passed = give(alloc, environment, kind, first, given, &mut all, all_passed)?;
     }
     if all_passed {
         gives(alloc, environment, signature, at, all)
@@ -541,13 +585,21 @@ fn library_call<'a, E: Environment>(
             let text = b"free".as_slice();
             no_call(alloc, environment, text, at, arguments, nothing)
         }
-        Library::GetChar if arguments.is_empty() => Ok(Operand::OfType {
-            kind: int(),
-            site: at,
-            value: TypedExpression::GetChar { site: at },
-        }),
-        Library::Expect if arguments.len() == 2 => evaluate(alloc, environment, &arguments[0]),
-        Library::GetChar | Library::Expect => {
+        Library::GetChar => {
+            if arguments.is_empty() {
+                return Ok(Operand::OfType {
+                    kind: int(),
+                    site: at,
+                    value: TypedExpression::GetChar { site: at },
+                });
+            }
+            let text = b"call".as_slice();
+            no_call(alloc, environment, text, at, arguments, nothing)
+        }
+        Library::Expect => {
+            if arguments.len() == 2 {
+                return evaluate(alloc, environment, &arguments[0]);
+            }
             let text = b"call".as_slice();
             no_call(alloc, environment, text, at, arguments, nothing)
         }
@@ -564,7 +616,7 @@ fn library_call<'a, E: Environment>(
 
 // What is known of the type whose size an expression is.
 #[cycle(operand)]
-#[tactic(auto, using(px_real_reading::proofs::TreeEquations::trees))]
+#[tactic(auto, using(px_real_reading::proofs::TreeEquations::trees, crate::proofs::SiteLemmas::chains))]
 fn measured<'a, E: Environment>(
     alloc: Global,
     environment: &'a E,
@@ -631,8 +683,8 @@ fn links<'a, E: Environment>(
             environment,
             link.operator,
             link.site,
-            left,
             &link.operand,
+            left,
         )?;
     }
     Ok(left)
@@ -645,8 +697,8 @@ fn linked<'a, E: Environment>(
     environment: &'a E,
     operator: Operator,
     site: Site,
-    left: Operand<'a>,
     right: &Expression,
+    left: Operand<'a>,
 ) -> Result<Operand<'a>, NoMemory>
     ensures { IfOk result (λ a. operand_seen a ≡ Operands.unless_stopped (operand_seen left.entry) (λ x. valued_binary (E.sees environment.entry.now) operator site x (Rules.valued (E.sees environment.entry.now) (expression_tree (E.tokens environment.entry.now) right.now)))) }
 {

@@ -12,3 +12,9 @@ returns-then-is_empty t c = λ all.
     c.is_nothing.ensures all ∙ ap (λ z. is_nothing (declarator_tree all z)) c.deref.ensures
     ∙ sym (ap is_nothing (tree_is all c.args.declarator.now c.in-Suffixed.core c.in-Suffixed.suffixes c.in-Suffixed.is)
     ∙ nothing_alone all (declarator_tree all c.in-Suffixed.core.value) c.in-Suffixed.suffixes.items (nil_from_length c.in-Suffixed.suffixes.items (sym c.in-Suffixed.suffixes.ok.0 ∙ eqb-true _ 0 (sym c.if-is_empty.ensures))))
+
+pub returns-else-is_empty : goal.returns-else-is_empty
+returns-else-is_empty t c = λ all.
+    c.if-is_empty.false
+    ∙ sym (ap is_nothing (tree_is all c.args.declarator.now c.in-Suffixed.core c.in-Suffixed.suffixes c.in-Suffixed.is)
+    ∙ nothing_never all (declarator_tree all c.in-Suffixed.core.value) c.in-Suffixed.suffixes.items _ c.in-Suffixed.suffixes.ok.0 (sym c.if-is_empty.false ∙ c.is_empty.ensures))
