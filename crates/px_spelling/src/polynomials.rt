@@ -1,5 +1,6 @@
-ghost use Rattle.std.specs.Prelude.{◌≡◌, ◌↔◌, ◌++◌, ◌≤◌, true, length, map, Some, IfOk};
+ghost use Rattle.std.specs.Prelude.{◌≡◌, ◌↔◌, ◌++◌, ◌≤◌, ℕ, List, true, length, map, Some, IfOk};
 ghost use Rattle.std.specs.List.{flat_map, AllByRecursion};
+ghost use Rattle.px_terms.specs.Terms.{Term};
 ghost use Rattle.px_terms.specs.Monomials.{term_of};
 ghost use Rattle.px_terms.specs.Polynomials.{most_degree};
 ghost use Rattle.px_spelling.specs.Reading.{Gives};
@@ -74,7 +75,7 @@ fn read_all_monomials(
 }
 
 // The monomial at the front.
-#[tactic(auto, unfolding(crate::specs::Polynomials::term_at))]
+#[tactic(auto, unfolding(crate::specs::Polynomials::term_at, crate::specs::Lists::list_at, crate::specs::Lists::items_at))]
 fn read_monomial(alloc: Global, bytes: &[u8]) -> Result<(Monomial<4>, &[u8]), WireFault>
     ensures reads { Gives (λ x. (term_of x.0, x.1.now)) result (term_at bytes.now) }
     ensures spelled { IfOk result (λ x. (bytes.now ≡ term_bytes (term_of x.0) ++ x.1.now) × IsTerm (term_of x.0)) }
@@ -116,7 +117,7 @@ fn with_vars<'a>(
     rest: &'a [u8],
 ) -> Result<(Monomial<4>, &'a [u8]), WireFault>
     requires { length vars.now ≤ most_degree }
-    ensures reads { Gives (λ x. (term_of x.0, x.1.now)) result (Some (record { coefficient = coefficient; vars = vars.now }, rest.now)) }
+    ensures reads { Gives {Y = Term × List ℕ} (λ x. (term_of x.0, x.1.now)) result (Some (record { coefficient = coefficient; vars = vars.now }, rest.now)) }
     ensures made { IfOk result (λ x. (term_of x.0 ≡ record { coefficient = coefficient; vars = vars.now }) × (x.1.now ≡ rest.now)) }
 {
     match Monomial::new(coefficient, vars) {

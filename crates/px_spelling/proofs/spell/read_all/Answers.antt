@@ -1,4 +1,4 @@
-use Rattle.std.proofs.Common.{rules, ◌≡◌, ◌++◌, ◌∷◌, [], length, ◌+◌, sym, ap, subst, ◌∙◌, arith, append_assoc, ◌-◌}
+use Rattle.std.proofs.Common.{rules, ◌≡◌, ◌++◌, ◌∷◌, [], length, ◌+◌, Some, sym, ap, subst, ◌∙◌, arith, append_assoc, ◌-◌}
 use Rattle.std.specs.List.{flat_map, AllByRecursion}
 use Rattle.std.proofs.lemmas.List.{length-append, flat_map_more}
 use Rattle.std.proofs.lemmas.Result.{err_from_is_err_and}
@@ -9,7 +9,7 @@ use Rattle.px_terms.proofs.Recursion.{all_push}
 
 pub returns-in_err-item-clause-reads : goal.returns-in_err-item-clause-reads
 returns-in_err-item-clause-reads g c =
-    let p = err_from_is_err_and c.from_residual.result c.from_residual.ensures.1 in
+    let p = err_from_is_err_and c.from_residual-in_err-item.result c.from_residual-in_err-item.ensures.1 in
     rw (p.1, p.2) (ends c.in_err-item.field-0.0 (g.T.WireWith.at_with (g.S.Terms.spelling c.args.terms.now)) c.loop.items.items c.args.count c.loop.counter c.loop.rest.now (items_at (g.T.WireWith.at_with (g.S.Terms.spelling c.args.terms.now)) c.args.count c.args.bytes.now) c.loop-test.true c.in_err-item.ensures.reads c.loop.invariant.reads)
 
 pub loop-preserved : goal.loop-preserved
@@ -26,4 +26,6 @@ loop-preserved g c =
     }
 
 pub returns-clause-reads : goal.returns-clause-reads
-returns-clause-reads g c = is_done (g.T.WireWith.at_with (g.S.Terms.spelling c.args.terms.now)) c.loop.items.items c.args.count c.loop.counter c.loop.rest.now (items_at (g.T.WireWith.at_with (g.S.Terms.spelling c.args.terms.now)) c.args.count c.args.bytes.now) c.loop-test.false c.loop.invariant.reads
+returns-clause-reads g c =
+    is_done (g.T.WireWith.at_with (g.S.Terms.spelling c.args.terms.now)) c.loop.items.items c.args.count c.loop.counter c.loop.rest.now (items_at (g.T.WireWith.at_with (g.S.Terms.spelling c.args.terms.now)) c.args.count c.args.bytes.now) c.loop-test.false c.loop.invariant.reads
+    ∙ ap (λ xs. Some (xs, c.loop.rest.now)) (sym c.from_vec.ensures)
