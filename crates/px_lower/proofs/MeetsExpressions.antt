@@ -37,7 +37,7 @@ use Rattle.px_meaning.specs.TreeExecution.{by_outcome, gives, errs, Outcomes, ye
 use Rattle.px_meaning.proofs.Determined.{after-append}
 use Rattle.px_lower.specs.Lowering.{Lowered, made_of, and_then, doing, reached, lowered_expression, lowered_arguments, lowered_passed, lowered_condition, comparison, copy, operation, result_slot}
 use Rattle.px_lower.specs.Lowering as lowering
-use Rattle.px_lower.specs.Scopes.{IsWithin, AreWithin, IsTestWithin}
+use Rattle.px_lower.specs.Scopes.{IsWithin, AreWithin, AreArgumentsWithin, IsTestWithin}
 use Rattle.px_lower.proofs.Ways.{Way, Meets, then', one_of, with', granted, on_such, on_written, on_pointer, on_new, on_input, on_call, ways, same, equal}
 use Rattle.px_core.proofs.Acts.{acts_append}
 use Rattle.px_core.specs.WellFormed.{IsOperandBelow}

@@ -8,7 +8,7 @@ use Rattle.px_meaning.specs.Values.{ValueType, Int, Pointer}
 use Rattle.px_meaning.specs.TypedProgram.{TypedProgram}
 use Rattle.px_meaning.specs.TreeTypes.{LocalTypes, IsOf, AreOf, ArePassed, IsCondition, IsPlaceOf, IsConditionIf, IsDeclared, IsReturned, IsStep, IsStatement, AreStatements, local_types, IsTypedProcedure, KeepsTyping}
 use Rattle.px_lower.specs.LoweredProgram.{locals_of}
-use Rattle.px_lower.specs.Scopes.{IsWithin, AreWithin, IsTestWithin, IsPlaceWithin, IsWithinIf, IsTestWithinIf, IsStatementWithin, AreStatementsWithin, KeepsScopes}
+use Rattle.px_lower.specs.Scopes.{IsWithin, AreWithin, AreArgumentsWithin, IsTestWithin, IsPlaceWithin, IsWithinIf, IsTestWithinIf, IsStatementWithin, AreStatementsWithin, KeepsScopes}
 
 module _ (P : TypedProgram) (locals : LocalTypes) (m : ℕ) (below : (i : ℕ) (t : ValueType) → locals i ≡ Some t → i < m) where
   mutual
