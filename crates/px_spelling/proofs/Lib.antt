@@ -12,3 +12,4 @@ pub mod TableRoundTrips
 pub mod OperandRoundTrips
 pub mod CalleeRoundTrips
 pub mod InFullRoundTrips
+pub mod PlaceLemmas

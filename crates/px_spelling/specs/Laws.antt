@@ -1,5 +1,8 @@
 -- Round trips: what was written is read as it was.
-use Rattle.std.specs.Prelude.{◌≡◌, ℕ, List, ◌++◌, Some}
+use Rattle.std.specs.Prelude.{◌≡◌, ◌≢◌, ℕ, List, [], ◌∷◌, ◌++◌, Some}
+use Rattle.std.specs.List.{flat_map}
+use Rattle.px_terms.specs.Polynomials.{Polynomial}
+use Rattle.px_terms.specs.declared.conjuncts.Conj.TheVariants as J
 use Rattle.px_spelling.specs.Reading.{Reader}
 use Rattle.px_spelling.specs.Traces.{proc_id_bytes, IsProcId, proc_id_at, site_bytes, IsSite, site_at}
 use Rattle.px_spelling.specs.Types.{value_type_bytes, IsValueType, value_type_at, block_type_bytes, IsBlockType, block_type_at}
@@ -9,6 +12,9 @@ use Rattle.px_spelling.specs.Tables.{table_bytes, IsTable, table_at}
 use Rattle.px_spelling.specs.Derivations.{derivation_bytes, IsDerivation, derivation_at}
 use Rattle.px_spelling.specs.Operands.{operand_bytes, IsOperand, operand_at, operator_bytes, IsOperator, operator_at, comparison_bytes, IsComparison, comparison_at}
 use Rattle.px_spelling.specs.Callees.{callee_bytes, IsCallee, callee_at}
+use Rattle.px_spelling.specs.Conjuncts.{conj_bytes}
+use Rattle.px_spelling.specs.ByPlace.{OrdersPolynomials, distinct, Differ, by_place}
+use Rattle.px_spelling.specs.Mentions.{conj_mentions}
 
 -- each value in range has its round trip: it is read as it was, whatever follows its bytes
 abbrev pub HasRoundTrip : {A : Type 0} → (A → List ℕ) → (A → Type 0) → Reader A → Type 0
@@ -34,3 +40,17 @@ pub record HoldersAreRead (p : PolynomialSpelling) : Type 0 where
   pub entries : HasRoundTrip (entry_bytes p) (IsEntry p) (entry_at p)
   pub tables : HasRoundTrip (table_bytes p) (IsTable p) (table_at p)
   pub callees : HasRoundTrip (callee_bytes p) (IsCallee p) (callee_at p)
+
+-- Of two conjuncts that share a polynomial, the list has it once, and they are spelled by three places: 0, 0 and 1.
+abbrev pub SharesOne : Polynomial → Polynomial → Type 0
+SharesOne p q =
+    let conjuncts = J.Equal p ∷ J.Less p q ∷ [] in
+    let terms = distinct (flat_map conj_mentions conjuncts) in
+    (terms ≡ p ∷ q ∷ []) × (flat_map (conj_bytes (by_place terms)) conjuncts ≡ 0 ∷ 0 ∷ 0 ∷ 0 ∷ 0 ∷ 2 ∷ 0 ∷ 0 ∷ 0 ∷ 0 ∷ 0 ∷ 0 ∷ 0 ∷ 1 ∷ [])
+
+-- polynomials by their places
+pub record PlacesAreRead : Type 0 where
+  pub ordered : OrdersPolynomials
+  pub read_again : (terms : List Polynomial) → AreReadAgain (by_place terms)
+  pub all_differ : (ps : List Polynomial) → Differ (distinct ps)
+  pub shared : (p q : Polynomial) → p ≢ q → SharesOne p q

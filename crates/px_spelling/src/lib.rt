@@ -34,7 +34,7 @@ mod types;
 pub use byte_count::ByteCount;
 pub use byte_list::ByteList;
 pub use fault::WireFault;
-pub use laws::{holders_are_read, written_is_read};
+pub use laws::{holders_are_read, places_are_read, written_is_read};
 pub use output::Output;
 pub use spell::{
     Wire, WireWith, are_in_range, are_in_range_with, read_items, read_items_with, write_count,
