@@ -107,7 +107,7 @@ pub all_differ : (ps : List Polynomial) → Differ (distinct ps)
 all_differ [] = tt
 all_differ (p ∷ ps) = (others p (distinct ps), differ_kept (λ q. not (is_same p q)) (distinct ps) (all_differ ps))
 
-other : (p q : Polynomial) → p ≢ q → is_same p q ≡ false
+pub other : (p q : Polynomial) → p ≢ q → is_same p q ≡ false
 other p q n = by_order (polynomial_cmp p q) refl
   where
     by_order : (o : Ordering) → polynomial_cmp p q ≡ o → is_eq o ≡ false

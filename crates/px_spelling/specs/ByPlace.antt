@@ -1,12 +1,12 @@
 -- Polynomials by their places in a list.
-use Rattle.std.specs.Prelude.{◌≡◌, ℕ, suc, List, [], ◌∷◌, Option, Some, None, slice_get, filter, cond, Bool, false, not, ⊤}
-use Rattle.std.specs.List.{AllByRecursion}
+use Rattle.std.specs.Prelude.{◌≡◌, ℕ, suc, List, [], ◌∷◌, Option, Some, None, slice_get, slice_index_or, length, ◌<◌, filter, cond, Bool, false, not, ⊤}
+use Rattle.std.specs.List.{AllByRecursion, IsAmong}
 use Rattle.std.specs.Option.{option_map}
 use Rattle.std.specs.Ordering.{nat_cmp, ordering_then, is_eq}
 use Rattle.std.specs.Cmp.{IsTotalOrder}
 use Rattle.std.specs.Cmp.Lexicographic.{slice_cmp}
 use Rattle.std.specs.declared.cmp.Ordering.{Ordering}
-use Rattle.std.specs.declared.cmp.Ordering.TheVariants.{Equal}
+use Rattle.std.specs.declared.cmp.Ordering.TheVariants.{Less, Equal, Greater}
 use Rattle.px_terms.specs.Terms.{Term}
 use Rattle.px_terms.specs.Polynomials.{Polynomial}
 use Rattle.px_spelling.specs.Reading.{Reader, ◌>>=◌, done, nothing}
@@ -71,3 +71,23 @@ named_at terms place = this_one (slice_get terms place)
 -- each by its place in this list
 abbrev pub by_place : List Polynomial → PolynomialSpelling
 by_place terms = record { bytes_of = λ p. found_bytes (place_in terms p); fits = λ p. IsFound (place_in terms p); at = u32_at >>= named_at terms }
+
+-- ---- finding them
+
+-- what stands at a place, against a polynomial; a place beyond the list is after each
+abbrev pub against : Option Polynomial → Polynomial → Ordering
+against None p = Greater
+against (Some q) p = polynomial_cmp q p
+
+abbrev pub order_at : List Polynomial → Polynomial → ℕ → Ordering
+order_at terms p place = against (slice_get terms place) p
+
+-- what stands at the first place is before what stands at the second
+abbrev pub StandsBefore : List Polynomial → ℕ → ℕ → Type 0
+StandsBefore terms i j = (p : Polynomial) × (slice_get terms j ≡ Some p) × (order_at terms p i ≡ Less)
+
+-- each place once, by the order of what stands there; the polynomials differ
+pub record IsIndex (terms : List Polynomial) (places : List ℕ) : Type 0 where
+  pub differ : Differ terms
+  pub rise : (i j : ℕ) → i < j → j < length places → StandsBefore terms (slice_index_or places i 0) (slice_index_or places j 0)
+  pub all : (n : ℕ) → n < length terms → IsAmong places n
