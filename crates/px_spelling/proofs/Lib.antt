@@ -13,3 +13,6 @@ pub mod OperandRoundTrips
 pub mod CalleeRoundTrips
 pub mod InFullRoundTrips
 pub mod PlaceLemmas
+pub mod DistinctLemmas
+pub mod SearchLemmas
+pub mod MentionRanges

@@ -1,7 +1,7 @@
 -- Polynomials that are spelled by their places are read again.
 use Rattle.std.proofs.Common.{◌≡◌, ℕ, zero, suc, List, [], ◌∷◌, ◌++◌, Bool, true, false, cond, Option, Some, None, refl, sym, subst, ap, ap₂, ◌∙◌}
 use Rattle.std.specs.Prelude.{slice_get, filter, not, ◌≢◌}
-use Rattle.std.specs.List.{AllByRecursion}
+use Rattle.std.specs.List.{AllByRecursion, flat_map}
 use Rattle.std.specs.Option.{option_map}
 use Rattle.std.specs.declared.cmp.Ordering.{Ordering}
 use Rattle.std.specs.declared.cmp.Ordering.TheVariants.{Less, Equal, Greater}
@@ -12,6 +12,9 @@ use Rattle.std.proofs.lemmas.Cmp.{nat_cmp_total, nat_list_cmp_total, lists_total
 use Rattle.px_terms.specs.Terms.{Term}
 use Rattle.px_terms.specs.Polynomials.{Polynomial}
 use Rattle.px_terms.proofs.KeyOrder.{equal_parts}
+use Rattle.px_terms.specs.declared.conjuncts.Conj.TheVariants as J
+use Rattle.px_spelling.specs.Conjuncts.{conj_bytes}
+use Rattle.px_spelling.specs.Laws.{SharesOne}
 use Rattle.px_spelling.specs.Numbers.{u32_bytes, IsU32, u32_at}
 use Rattle.px_spelling.specs.ByPlace.{term_cmp, polynomial_cmp, is_same, OrdersPolynomials, distinct, Differ, place_in, named_at, IsFound, by_place}
 use Rattle.px_spelling.proofs.RoundTrip.{ReadsAs, RoundTrip, u32_round_trip}
@@ -78,7 +81,7 @@ place_round_trip terms p fits = read_at terms p (place_in terms p) refl fits
 
 -- ---- each once
 
-all_kept : (P : Polynomial → Type 0) (f : Polynomial → Bool) (ps : List Polynomial) → AllByRecursion P ps → AllByRecursion P (filter f ps)
+pub all_kept : (P : Polynomial → Type 0) (f : Polynomial → Bool) (ps : List Polynomial) → AllByRecursion P ps → AllByRecursion P (filter f ps)
 all_kept P f [] all = tt
 all_kept P f (p ∷ ps) all = kept_first (f p) (all_kept P f ps all.1)
   where
@@ -114,3 +117,14 @@ other p q n = by_order (polynomial_cmp p q) refl
     by_order Less e = refl
     by_order Equal e = absurd (n (only_same p q e))
     by_order Greater e = refl
+
+-- ---- two conjuncts that share a polynomial
+
+listed : (p q : Polynomial) → p ≢ q → distinct (p ∷ p ∷ q ∷ []) ≡ p ∷ q ∷ []
+listed p q n = rw (other p q n, same_itself p, other p q n) refl
+
+pub shares_one : (p q : Polynomial) → p ≢ q → SharesOne p q
+shares_one p q n =
+    let conjuncts = J.Equal p ∷ J.Less p q ∷ [] in
+    let spelled : flat_map (conj_bytes (by_place (p ∷ q ∷ []))) conjuncts ≡ 0 ∷ 0 ∷ 0 ∷ 0 ∷ 0 ∷ 2 ∷ 0 ∷ 0 ∷ 0 ∷ 0 ∷ 0 ∷ 0 ∷ 0 ∷ 1 ∷ [] = rw (same_itself p, other p q n, same_itself q) refl in
+    (listed p q n, subst (λ terms. flat_map (conj_bytes (by_place terms)) conjuncts ≡ 0 ∷ 0 ∷ 0 ∷ 0 ∷ 0 ∷ 2 ∷ 0 ∷ 0 ∷ 0 ∷ 0 ∷ 0 ∷ 0 ∷ 0 ∷ 1 ∷ []) (sym (listed p q n)) spelled)

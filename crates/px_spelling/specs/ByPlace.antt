@@ -89,5 +89,5 @@ StandsBefore terms i j = (p : Polynomial) × (slice_get terms j ≡ Some p) × (
 -- each place once, by the order of what stands there; the polynomials differ
 pub record IsIndex (terms : List Polynomial) (places : List ℕ) : Type 0 where
   pub differ : Differ terms
-  pub rise : (i j : ℕ) → i < j → j < length places → StandsBefore terms (slice_index_or places i 0) (slice_index_or places j 0)
+  pub rise : (i j d : ℕ) → i < j → j < length places → StandsBefore terms (slice_index_or places i d) (slice_index_or places j d)
   pub all : (n : ℕ) → n < length terms → IsAmong places n
