@@ -35,12 +35,12 @@ all_mentioned P (p ∷ ps) all = (all.0, all_mentioned P ps (all_back P p (disti
 
 -- ---- places
 
-all_mapped : {P Q : Polynomial → Type 0} → ((p : Polynomial) → P p → Q p) → (ps : List Polynomial) → AllByRecursion P ps → AllByRecursion Q ps
-all_mapped f [] all = tt
-all_mapped f (p ∷ ps) all = (f p all.0, all_mapped f ps all.1)
+all_mapped : (P Q : Polynomial → Type 0) → ((p : Polynomial) → P p → Q p) → (ps : List Polynomial) → AllByRecursion P ps → AllByRecursion Q ps
+all_mapped P Q f [] all = tt
+all_mapped P Q f (p ∷ ps) all = (f p all.0, all_mapped P Q f ps all.1)
 
 -- there is a place, below a number
-abbrev IsBelow : ℕ → Option ℕ → Type 0
+abbrev pub IsBelow : ℕ → Option ℕ → Type 0
 IsBelow n None = ⊥
 IsBelow n (Some k) = k < n
 
@@ -57,7 +57,7 @@ pub each_has_place : (ps : List Polynomial) → AllByRecursion (λ p. IsBelow (l
 each_has_place [] = tt
 each_has_place (q ∷ qs) =
     (itself_first (is_same q q) (length qs) (place_in qs q) (same_itself q),
-     all_mapped (λ p below. one_more (length qs) (is_same q p) (place_in qs p) below) qs (each_has_place qs))
+     all_mapped (λ p. IsBelow (length qs) (place_in qs p)) (λ p. IsBelow (length (q ∷ qs)) (place_in (q ∷ qs) p)) (λ p below. one_more (length qs) (is_same q p) (place_in qs p) below) qs (each_has_place qs))
 
 few_fit : (n : ℕ) (r : Option ℕ) → n < 2 ^ 32 → IsBelow n r → IsFound r
 few_fit n None few below = below
@@ -67,4 +67,4 @@ few_fit n (Some k) few below = omega (arith, below, few)
 pub mentioned_fit : (ps : List Polynomial) → IsU32 (length (distinct ps)) → AllByRecursion (λ p. IsFound (place_in (distinct ps) p)) ps
 mentioned_fit ps few =
     all_mentioned (λ p. IsFound (place_in (distinct ps) p)) ps
-    (all_mapped (λ p below. few_fit (length (distinct ps)) (place_in (distinct ps) p) few below) (distinct ps) (each_has_place (distinct ps)))
+    (all_mapped (λ p. IsBelow (length (distinct ps)) (place_in (distinct ps) p)) (λ p. IsFound (place_in (distinct ps) p)) (λ p below. few_fit (length (distinct ps)) (place_in (distinct ps) p) few below) (distinct ps) (each_has_place (distinct ps)))

@@ -52,16 +52,16 @@ module _ {A : Type 0} {fits : PolynomialSpelling → A → Type 0} {mentions : A
       (all_joined p.fits (mentions x) (flat_map mentions xs) (item.named p x all.0) (each_named p xs all.1))
 
   each_moved : (p q : PolynomialSpelling) (xs : List A) → AllByRecursion (fits p) xs → AllByRecursion q.fits (flat_map mentions xs) → AllByRecursion (fits q) xs
-  each_moved p q [] all named = tt
-  each_moved p q (x ∷ xs) all named =
-      let both = subst (AllByRecursion q.fits) (flat_map-cons mentions x xs) named in
+  each_moved p q [] all others = tt
+  each_moved p q (x ∷ xs) all others =
+      let both = subst (AllByRecursion q.fits) (flat_map-cons mentions x xs) others in
       (item.moved p q x all.0 (all_first q.fits (mentions x) (flat_map mentions xs) both),
        each_moved p q xs all.1 (all_second q.fits (mentions x) (flat_map mentions xs) both))
 
   pub list_ranges : (most : ℕ) → Ranges (λ p. IsList (fits p) most) (flat_map mentions)
   list_ranges most = record {
     named = λ p xs all. each_named p xs all.2;
-    moved = λ p q xs all named. (all.0, all.1, each_moved p q xs all.2 named);
+    moved = λ p q xs all others. (all.0, all.1, each_moved p q xs all.2 others);
   }
 
 -- ---- one type after another
@@ -76,10 +76,10 @@ content_ranges = record { named = named; moved = moved }
     named p (C.Cell a) fits = tt
 
     moved : (p q : PolynomialSpelling) (x : Content) → IsContent p x → AllByRecursion q.fits (content_mentions x) → IsContent q x
-    moved p q C.Unwritten fits named = tt
-    moved p q (C.Word a) fits named = named.0
-    moved p q (C.Place a) fits named = fits
-    moved p q (C.Cell a) fits named = fits
+    moved p q C.Unwritten fits all = tt
+    moved p q (C.Word a) fits all = all.0
+    moved p q (C.Place a) fits all = fits
+    moved p q (C.Cell a) fits all = fits
 
 abbrev pub IsResult : PolynomialSpelling → Option Content → Type 0
 IsResult p given = IfSome given (IsContent p)
@@ -92,8 +92,8 @@ result_ranges = record { named = named; moved = moved }
     named p (Some c) fits = content_ranges.named p c fits
 
     moved : (p q : PolynomialSpelling) (x : Option Content) → IsResult p x → AllByRecursion q.fits (result_mentions x) → IsResult q x
-    moved p q None fits named = fits
-    moved p q (Some c) fits named = content_ranges.moved p q c fits named
+    moved p q None fits all = fits
+    moved p q (Some c) fits all = content_ranges.moved p q c fits all
 
 pub conj_ranges : Ranges IsConj conj_mentions
 conj_ranges = record { named = named; moved = moved }
@@ -110,15 +110,15 @@ conj_ranges = record { named = named; moved = moved }
     named p (J.Quotient x a b) fits = (fits.1, fits.2, tt)
 
     moved : (p q : PolynomialSpelling) (x : Conj) → IsConj p x → AllByRecursion q.fits (conj_mentions x) → IsConj q x
-    moved p q (J.Equal a) fits named = named.0
-    moved p q (J.Unequal a) fits named = named.0
-    moved p q (J.Less a b) fits named = (named.0, named.1)
-    moved p q (J.AtMost a b) fits named = (named.0, named.1)
-    moved p q (J.SamePlace a b) fits named = fits
-    moved p q (J.OtherPlace a b) fits named = fits
-    moved p q (J.Written a) fits named = fits
-    moved p q (J.Unwritten a) fits named = fits
-    moved p q (J.Quotient x a b) fits named = (fits.0, named.0, named.1)
+    moved p q (J.Equal a) fits all = all.0
+    moved p q (J.Unequal a) fits all = all.0
+    moved p q (J.Less a b) fits all = (all.0, all.1)
+    moved p q (J.AtMost a b) fits all = (all.0, all.1)
+    moved p q (J.SamePlace a b) fits all = fits
+    moved p q (J.OtherPlace a b) fits all = fits
+    moved p q (J.Written a) fits all = fits
+    moved p q (J.Unwritten a) fits all = fits
+    moved p q (J.Quotient x a b) fits all = (fits.0, all.0, all.1)
 
 pub atom_state_ranges : Ranges IsAtomState atom_state_mentions
 atom_state_ranges = record { named = named; moved = moved }
@@ -128,13 +128,13 @@ atom_state_ranges = record { named = named; moved = moved }
     named p A.Freed fits = tt
 
     moved : (p q : PolynomialSpelling) (x : AtomState) → IsAtomState p x → AllByRecursion q.fits (atom_state_mentions x) → IsAtomState q x
-    moved p q (A.Live cells) fits named = (list_ranges content_ranges any_number).moved p q cells fits named
-    moved p q A.Freed fits named = tt
+    moved p q (A.Live cells) fits all = (list_ranges content_ranges any_number).moved p q cells fits all
+    moved p q A.Freed fits all = tt
 
 pub atom_ranges : Ranges IsAtom atom_mentions
 atom_ranges = record {
   named = λ p x fits. atom_state_ranges.named p x.state fits.2;
-  moved = λ p q x fits named. (fits.0, fits.1, atom_state_ranges.moved p q x.state fits.2 named);
+  moved = λ p q x fits all. (fits.0, fits.1, atom_state_ranges.moved p q x.state fits.2 all);
 }
 
 -- ---- entries, drops and tables
@@ -144,10 +144,10 @@ module _ {P : Polynomial → Type 0} where
   pub joined4 : (a b c d : List Polynomial) → AllByRecursion P a → AllByRecursion P b → AllByRecursion P c → AllByRecursion P d → AllByRecursion P (a ++ b ++ c ++ d)
   joined4 a b c d u v w x = all_joined P a (b ++ c ++ d) u (all_joined P b (c ++ d) v (all_joined P c d w x))
 
-abbrev pure_ranges : Ranges (λ p. IsList (IsConj p) most_conjuncts) (flat_map conj_mentions)
+pure_ranges : Ranges (λ p. IsList (IsConj p) most_conjuncts) (flat_map conj_mentions)
 pure_ranges = list_ranges conj_ranges most_conjuncts
 
-abbrev atoms_ranges : Ranges (λ p. IsList (IsAtom p) most_atoms) (flat_map atom_mentions)
+atoms_ranges : Ranges (λ p. IsList (IsAtom p) most_atoms) (flat_map atom_mentions)
 atoms_ranges = list_ranges atom_ranges most_atoms
 
 pub entry_ranges : Ranges IsEntry entry_mentions
@@ -159,14 +159,14 @@ entry_ranges = record { named = named; moved = moved }
         (result_ranges.named p e.result fits.3) (pure_ranges.named p e.pure fits.5) (atoms_ranges.named p e.pre fits.6) (atoms_ranges.named p e.post fits.7)
 
     moved : (p q : PolynomialSpelling) (e : Entry) → IsEntry p e → AllByRecursion q.fits (entry_mentions e) → IsEntry q e
-    moved p q e fits named =
+    moved p q e fits all =
         let given = result_mentions e.result in
         let pure = flat_map conj_mentions e.pure in
         let pre = flat_map atom_mentions e.pre in
         let post = flat_map atom_mentions e.post in
-        let after = all_second q.fits given (pure ++ pre ++ post) named in
+        let after = all_second q.fits given (pure ++ pre ++ post) all in
         let atoms = all_second q.fits pure (pre ++ post) after in
-        (fits.0, fits.1, fits.2, result_ranges.moved p q e.result fits.3 (all_first q.fits given (pure ++ pre ++ post) named), fits.4,
+        (fits.0, fits.1, fits.2, result_ranges.moved p q e.result fits.3 (all_first q.fits given (pure ++ pre ++ post) all), fits.4,
          pure_ranges.moved p q e.pure fits.5 (all_first q.fits pure (pre ++ post) after),
          atoms_ranges.moved p q e.pre fits.6 (all_first q.fits pre post atoms), atoms_ranges.moved p q e.post fits.7 (all_second q.fits pre post atoms), fits.8)
 
@@ -185,20 +185,20 @@ cause_ranges = record { named = named; moved = moved }
     named p (G.Outside a) fits = tt
 
     moved : (p q : PolynomialSpelling) (x : Cause) → IsCause p x → AllByRecursion q.fits (cause_mentions x) → IsCause q x
-    moved p q (G.Undecided a) fits named = pure_ranges.moved p q a fits named
-    moved p q (G.Nodes a) fits named = fits
-    moved p q (G.Paths a) fits named = fits
-    moved p q (G.Long a) fits named = fits
-    moved p q (G.Unknown a) fits named = fits
-    moved p q (G.Cycle a) fits named = fits
-    moved p q (G.Dropped a) fits named = fits
-    moved p q (G.LeftOut a) fits named = fits
-    moved p q (G.Outside a) fits named = fits
+    moved p q (G.Undecided a) fits all = pure_ranges.moved p q a fits all
+    moved p q (G.Nodes a) fits all = fits
+    moved p q (G.Paths a) fits all = fits
+    moved p q (G.Long a) fits all = fits
+    moved p q (G.Unknown a) fits all = fits
+    moved p q (G.Cycle a) fits all = fits
+    moved p q (G.Dropped a) fits all = fits
+    moved p q (G.LeftOut a) fits all = fits
+    moved p q (G.Outside a) fits all = fits
 
 pub gap_ranges : Ranges IsGap gap_mentions
 gap_ranges = record {
   named = λ p x fits. cause_ranges.named p x.cause fits.1;
-  moved = λ p q x fits named. (fits.0, cause_ranges.moved p q x.cause fits.1 named);
+  moved = λ p q x fits all. (fits.0, cause_ranges.moved p q x.cause fits.1 all);
 }
 
 pub table_ranges : Ranges IsTable table_mentions
@@ -210,11 +210,11 @@ table_ranges = record { named = named; moved = moved }
         ((list_ranges entry_ranges most_rows).named p t.entries fits.0) ((list_ranges gap_ranges (most_rows - length t.entries)).named p t.drops fits.1)
 
     moved : (p q : PolynomialSpelling) (t : Table) → IsTable p t → AllByRecursion q.fits (table_mentions t) → IsTable q t
-    moved p q t fits named =
+    moved p q t fits all =
         let entries = flat_map entry_mentions t.entries in
         let drops = flat_map gap_mentions t.drops in
-        ((list_ranges entry_ranges most_rows).moved p q t.entries fits.0 (all_first q.fits entries drops named),
-         (list_ranges gap_ranges (most_rows - length t.entries)).moved p q t.drops fits.1 (all_second q.fits entries drops named))
+        ((list_ranges entry_ranges most_rows).moved p q t.entries fits.0 (all_first q.fits entries drops all),
+         (list_ranges gap_ranges (most_rows - length t.entries)).moved p q t.drops fits.1 (all_second q.fits entries drops all))
 
 pub callee_ranges : Ranges IsCallee callee_mentions
 callee_ranges = record { named = named; moved = moved }
@@ -226,7 +226,7 @@ callee_ranges = record { named = named; moved = moved }
     named p K.Unknown fits = tt
 
     moved : (p q : PolynomialSpelling) (x : Callee) → IsCallee p x → AllByRecursion q.fits (callee_mentions x) → IsCallee q x
-    moved p q (K.Table t) fits named = table_ranges.moved p q t fits named
-    moved p q K.Cycle fits named = fits
-    moved p q K.LeftOut fits named = fits
-    moved p q K.Unknown fits named = fits
+    moved p q (K.Table t) fits all = table_ranges.moved p q t fits all
+    moved p q K.Cycle fits all = fits
+    moved p q K.LeftOut fits all = fits
+    moved p q K.Unknown fits all = fits

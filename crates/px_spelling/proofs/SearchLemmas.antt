@@ -1,5 +1,5 @@
 -- What a search in the order of polynomials finds.
-use Rattle.std.proofs.Common.{◌≡◌, ℕ, zero, suc, ◌<◌, ◌≤◌, List, [], ◌∷◌, length, Bool, true, false, cond, Option, Some, None, Result, Ok, Err, refl, sym, ap, subst, ◌∙◌, ◌⊎◌, ⊎_elim, arith}
+use Rattle.std.proofs.Common.{◌≡◌, ℕ, zero, suc, ◌<◌, ◌≤◌, List, [], ◌∷◌, length, Bool, true, false, cond, Option, Some, None, Result, Ok, Err, refl, sym, ap, subst, ◌∙◌, ◌⊎◌, ⊎_elim, inl, inr, arith}
 use Rattle.std.specs.Prelude.{slice_get, slice_index_or}
 use Rattle.std.specs.List.{AllByRecursion, IsAmong}
 use Rattle.std.specs.List.Sorted.{IsNonDecreasingBy, IsBinarySearchResult, IsSearchInRange}
@@ -24,6 +24,16 @@ pub own_place : (ps : List Polynomial) (n : ℕ) (p : Polynomial) → Differ ps 
 own_place [] n p h e = cc
 own_place (q ∷ qs) zero p h e = subst (λ x. place_in (q ∷ qs) x ≡ Some 0) (same_Some q p e) (rw (same_itself q) refl)
 own_place (q ∷ qs) (suc n) p h e = rw (all_get (λ r. is_same q r ≡ false) qs n p h.0 e, own_place qs n p h.1 e) refl
+
+-- ---- numbers
+
+below_or_not : (k i : ℕ) → (k < i) ⊎ (i ≤ k)
+below_or_not k zero = inr (omega arith)
+below_or_not zero (suc i) = inl (omega arith)
+below_or_not (suc k) (suc i) = ⊎_elim (λ l. inl (omega (arith, l))) (λ l. inr (omega (arith, l))) (below_or_not k i)
+
+same_or_less : (i j : ℕ) → i ≤ j → (i ≡ j) ⊎ (i < j)
+same_or_less i j le = ⊎_elim (λ l. inr l) (λ l. inl (omega (arith, le, l))) (below_or_not i j)
 
 -- ---- against one polynomial the places rise
 
@@ -50,9 +60,6 @@ places_rise ts ks p h i j d le lt =
     ⊎_elim (λ (e : i ≡ j). equal_index ts p (slice_index_or ks i d) (slice_index_or ks j d) (ap (λ k. slice_index_or ks k d) e))
     (λ (l : i < j). let b = h.rise i j d l lt in rises_at p b.0 (slice_get ts (slice_index_or ks i d)) (slice_get ts (slice_index_or ks j d)) b.1 b.2)
     (same_or_less i j le)
-  where
-    same_or_less : (i j : ℕ) → i ≤ j → (i ≡ j) ⊎ (i < j)
-    same_or_less i j le = omega arith
 
 -- ---- what is found
 
@@ -90,6 +97,3 @@ place_of_search ts ks p (Err i) h range parted =
     ⊎_elim (λ (l : k < i). let less : order_at ts p (slice_index_or ks k d) ≡ Less = split.0 k d (omega arith) l in let both : Less ≡ Equal = sym less ∙ e in cc)
     (λ (l : i ≤ k). let greater : order_at ts p (slice_index_or ks k d) ≡ Greater = split.1 k d l lt in let both : Greater ≡ Equal = sym greater ∙ e in cc)
     (below_or_not k i))
-  where
-    below_or_not : (k i : ℕ) → (k < i) ⊎ (i ≤ k)
-    below_or_not k i = omega arith

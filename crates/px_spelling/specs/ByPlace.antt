@@ -1,7 +1,7 @@
 -- Polynomials by their places in a list.
-use Rattle.std.specs.Prelude.{◌≡◌, ℕ, suc, List, [], ◌∷◌, Option, Some, None, slice_get, slice_index_or, length, ◌<◌, filter, cond, Bool, false, not, ⊤}
+use Rattle.std.specs.Prelude.{◌≡◌, ℕ, suc, List, [], ◌∷◌, Option, Some, None, slice_get, slice_index_or, length, ◌+◌, ◌<◌, filter, cond, Bool, false, not, ⊤}
 use Rattle.std.specs.List.{AllByRecursion, IsAmong}
-use Rattle.std.specs.Option.{option_map}
+use Rattle.std.specs.Option.{option_map, option_cmp}
 use Rattle.std.specs.Ordering.{nat_cmp, ordering_then, is_eq}
 use Rattle.std.specs.Cmp.{IsTotalOrder}
 use Rattle.std.specs.Cmp.Lexicographic.{slice_cmp}
@@ -85,6 +85,10 @@ order_at terms p place = against (slice_get terms place) p
 -- what stands at the first place is before what stands at the second
 abbrev pub StandsBefore : List Polynomial → ℕ → ℕ → Type 0
 StandsBefore terms i j = (p : Polynomial) × (slice_get terms j ≡ Some p) × (order_at terms p i ≡ Less)
+
+-- what stands at each place is after what stands at the one before
+abbrev pub Rise : List Polynomial → List ℕ → Type 0
+Rise terms places = (i d : ℕ) → i + 1 < length places → option_cmp polynomial_cmp (slice_get terms (slice_index_or places i d)) (slice_get terms (slice_index_or places (i + 1) d)) ≡ Less
 
 -- each place once, by the order of what stands there; the polynomials differ
 pub record IsIndex (terms : List Polynomial) (places : List ℕ) : Type 0 where

@@ -24,6 +24,7 @@ mod laws;
 mod mentions;
 mod numbers;
 mod operands;
+mod ordered;
 mod output;
 mod polynomial_order;
 mod polynomials;
