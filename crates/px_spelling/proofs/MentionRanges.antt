@@ -112,13 +112,13 @@ conj_ranges = record { named = named; moved = moved }
     moved : (p q : PolynomialSpelling) (x : Conj) → IsConj p x → AllByRecursion q.fits (conj_mentions x) → IsConj q x
     moved p q (J.Equal a) fits all = all.0
     moved p q (J.Unequal a) fits all = all.0
-    moved p q (J.Less a b) fits all = (all.0, all.1)
-    moved p q (J.AtMost a b) fits all = (all.0, all.1)
+    moved p q (J.Less a b) fits all = (all.0, all.1.0)
+    moved p q (J.AtMost a b) fits all = (all.0, all.1.0)
     moved p q (J.SamePlace a b) fits all = fits
     moved p q (J.OtherPlace a b) fits all = fits
     moved p q (J.Written a) fits all = fits
     moved p q (J.Unwritten a) fits all = fits
-    moved p q (J.Quotient x a b) fits all = (fits.0, all.0, all.1)
+    moved p q (J.Quotient x a b) fits all = (fits.0, all.0, all.1.0)
 
 pub atom_state_ranges : Ranges IsAtomState atom_state_mentions
 atom_state_ranges = record { named = named; moved = moved }

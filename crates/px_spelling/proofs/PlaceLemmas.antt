@@ -1,5 +1,5 @@
 -- Polynomials that are spelled by their places are read again.
-use Rattle.std.proofs.Common.{◌≡◌, ℕ, zero, suc, List, [], ◌∷◌, ◌++◌, Bool, true, false, cond, Option, Some, None, refl, sym, subst, ap, ap₂, ◌∙◌}
+use Rattle.std.proofs.Common.{◌≡◌, ℕ, zero, suc, List, [], ◌∷◌, ◌++◌, Bool, true, false, cond, Option, Some, None, ◌≤◌, length, map, refl, sym, subst, ap, ap₂, ◌∙◌, arith}
 use Rattle.std.specs.Prelude.{slice_get, filter, not, ◌≢◌}
 use Rattle.std.specs.List.{AllByRecursion, flat_map}
 use Rattle.std.specs.Option.{option_map}
@@ -35,6 +35,12 @@ same_lists R same (x ∷ xs) [] h = cc
 same_lists R same (x ∷ xs) (y ∷ ys) h =
     let parts = equal_parts (R x y) (slice_cmp R xs ys) h in
     ap₂ ◌∷◌ (same x y parts.0) (same_lists R same xs ys parts.1)
+
+-- some items are after none
+pub after_nothing : {A : Type 0} (f : A → Term) (xs ys : List A) → 1 ≤ length xs → length ys ≡ 0 → Greater ≡ slice_cmp term_cmp (map f xs) (map f ys)
+after_nothing f [] ys l e = absurd (omega (arith, l))
+after_nothing f (x ∷ xs) [] l e = refl
+after_nothing f (x ∷ xs) (y ∷ ys) l e = absurd (omega (arith, e))
 
 same_numbers : (x y : ℕ) → nat_cmp x y ≡ Equal → x ≡ y
 same_numbers x y h = ranked x y Equal (sym h)

@@ -81,7 +81,7 @@ none_stands ts ks p None e h none = refl
 none_stands ts ks p (Some n) e h none =
     let stands : slice_get ts n ≡ Some p = found ts p n e in
     let k = h.all n (within ts n p stands) in
-    absurd (none k.0 n k.1 (subst (λ m. order_at ts p m ≡ Equal) k.2 (stands_equal p (slice_get ts n) stands)))
+    absurd (none k.0 n k.1.0 (subst (λ m. order_at ts p m ≡ Equal) k.1.1 (stands_equal p (slice_get ts n) stands)))
   where
     within : (ts : List Polynomial) (n : ℕ) (p : Polynomial) → slice_get ts n ≡ Some p → n < length ts
     within [] n p s = cc

@@ -14,6 +14,7 @@ fn order_monomials(a: &Monomial<4>, b: &Monomial<4>) -> Ordering
 }
 
 // One after another; at most 16 deep.
+#[tactic(auto, using(crate::proofs::PlaceLemmas::after_nothing))]
 fn order_all(a: &[Monomial<4>], b: &[Monomial<4>]) -> Ordering
     ensures { result ≡ slice_cmp term_cmp (map term_of a.now) (map term_of b.now) }
 {
