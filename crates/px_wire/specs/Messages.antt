@@ -9,8 +9,7 @@ use Rattle.px_spelling.specs.Numbers.{u8_bytes, IsU8, IsU32, u64_bytes, IsU64}
 use Rattle.px_spelling.specs.Lists.{list_bytes, IsList, any_number}
 use Rattle.px_spelling.specs.Polynomials.{polynomial_bytes, PolynomialSpelling, in_full}
 use Rattle.px_spelling.specs.ByPlace.{by_place}
-use Rattle.px_spelling.specs.Tables.{table_bytes}
-use Rattle.px_spelling.specs.InFull.{IsTable}
+use Rattle.px_spelling.specs.Tables.{table_bytes, IsTable}
 use Rattle.px_spelling.specs.Derivations.{derivation_bytes, IsDerivation}
 use Rattle.px_wire.specs.TableRanges.{table_within}
 use Rattle.px_wire.specs.JobRanges.{job_within, rises}
@@ -49,13 +48,17 @@ message_bytes version m = tag_of m ∷ version ∷ (if version == 2 then shared_
 abbrev pub any_types : ℕ
 any_types = 4294967296
 
--- In range: its numbers and lists are, its polynomials are in normal form, what it names is there, and kinds and callees rise.
-abbrev pub IsMessage : MessageTree → Type 0
-IsMessage (request j) = IsJob in_full j × (job_within j ≡ true)
-IsMessage (reply ticket kinds table derivations) =
-    (IsU64 ticket × IsList IsU8 any_number kinds × IsTable table × IsList IsDerivation any_number derivations)
+-- In range where polynomials have a spelling: its numbers and lists are, its polynomials fit, what it names is there, and kinds and callees rise.
+abbrev pub IsSaid : PolynomialSpelling → MessageTree → Type 0
+IsSaid p (request j) = IsJob p j × (job_within j ≡ true)
+IsSaid p (reply ticket kinds table derivations) =
+    (IsU64 ticket × IsList IsU8 any_number kinds × IsTable p table × IsList IsDerivation any_number derivations)
     × (rises kinds ≡ true) × (table_within any_types table ≡ true)
-IsMessage (large ticket) = IsU64 ticket
+IsSaid p (large ticket) = IsU64 ticket
+
+-- in range, its polynomials in normal form
+abbrev pub IsMessage : MessageTree → Type 0
+IsMessage m = IsSaid in_full m
 
 -- It is version 1; or 2, and its terms can be counted.
 abbrev pub HasVersion : ℕ → MessageTree → Type 0

@@ -25,12 +25,12 @@ use std::alloc::Global;
 /// More than any number of four bytes.
 pub const ANY_TYPES: usize = 4_294_967_296;
 
-/// The message that these bytes spell. `NotAMessage` comes exactly where they spell none; else `NoMemory`. Room is taken
+/// The message that these bytes spell, in version 1 or 2. `NotAMessage` comes exactly where they spell none; else `NoMemory`. Room is taken
 /// for what was read, so that a count which the bytes don't hold takes none.
 #[tactic(auto, unfolding(crate::specs::Readers::message_in))]
 pub fn decode(alloc: Global, bytes: &[u8]) -> Result<Message, WireFault>
     ensures spelled { IsDecoded bytes.now result }
-    ensures reads { Gives message_tree result (message_in bytes.now) }
+    ensures reads { Gives (λ t. t) result (message_in bytes.now) }
 {
     let (message, rest) = read_message(alloc, bytes)?;
     match rest {
@@ -39,47 +39,94 @@ pub fn decode(alloc: Global, bytes: &[u8]) -> Result<Message, WireFault>
     }
 }
 
-#[tactic(auto, unfolding(crate::specs::Readers::message_at, crate::specs::Readers::fields_at))]
+#[tactic(auto, unfolding(crate::specs::Readers::message_at, crate::specs::Readers::with_version))]
 fn read_message(alloc: Global, bytes: &[u8]) -> Result<(Message, &[u8]), WireFault>
-    ensures reads { Gives (λ x. (message_tree x.0, x.1.now)) result (message_at bytes.now) }
-    ensures spelled { IfOk result (λ x. (bytes.now ≡ message_bytes (message_tree x.0) ++ x.1.now) × IsMessage (message_tree x.0)) }
+    ensures reads { Gives (λ x. (x.0, x.1.now)) result (message_at bytes.now) }
+    ensures spelled { IfOk result (λ x. (bytes.now ≡ message_bytes x.0.version x.0.says ++ x.1.now) × IsMessage x.0.says × HasVersion x.0.version x.0.says) }
 {
     let (tag, rest) = u8::read(alloc, bytes)?;
     let (version, rest) = u8::read(alloc, rest)?;
-    if version != VERSION {
+    match version {
+        FULL => {
+            let (said, rest) = read_fields(&InFull, alloc, tag, rest)?;
+            Ok((Message::new(alloc, said), rest))
+        }
+        SHARED => read_shared(alloc, tag, rest),
+        _ => Err(WireFault::NotAMessage),
+    }
+}
+
+// What follows the version where each polynomial is sent once.
+#[tactic(auto, unfolding(crate::specs::Readers::shared_at))]
+fn read_shared(alloc: Global, tag: u8, bytes: &[u8]) -> Result<(Message, &[u8]), WireFault>
+    ensures reads { Gives (λ x. (x.0, x.1.now)) result ((done (told_of 2) <*> shared_at tag) bytes.now) }
+    ensures spelled { IfOk result (λ x. (x.0.version ≡ 2) × (tag_of x.0.says ≡ tag) × (bytes.now ≡ shared_bytes x.0.says ++ x.1.now) × IsMessage x.0.says × HasVersion 2 x.0.says) }
+{
+    if tag == 2 {
+        let (said, rest) = read_large(alloc, bytes)?;
+        return Ok((share(Message::new(alloc, said))?, rest));
+    }
+    let (all, rest) = read_items(alloc, u32::MAX, bytes)?;
+    let Some(terms) = TermList::new(alloc, all)? else {
+        return Err(WireFault::NotAMessage);
+    };
+    let (said, rest) = read_fields(&terms, alloc, tag, rest)?;
+    if !are_terms(alloc, &terms, &said)? {
         return Err(WireFault::NotAMessage);
     }
+    Ok((with_terms(alloc, said, terms), rest))
+}
+
+// By the byte that says which message it is.
+#[tactic(auto, unfolding(crate::specs::Readers::fields_at))]
+fn read_fields<'a, S: Terms>(
+    terms: &S,
+    alloc: Global,
+    tag: u8,
+    bytes: &'a [u8],
+) -> Result<(Said, &'a [u8]), WireFault>
+    ensures reads { Gives (λ x. (said_tree x.0, x.1.now)) result (fields_at (S.spelling terms.now) tag bytes.now) }
+    ensures spelled { IfOk result (λ x. (tag_of (said_tree x.0) ≡ tag) × (bytes.now ≡ fields_bytes (S.spelling terms.now) (said_tree x.0) ++ x.1.now) × IsSaid (S.spelling terms.now) (said_tree x.0)) }
+{
     match tag {
-        0 => read_request(alloc, rest),
-        1 => read_reply(alloc, rest),
-        2 => read_large(alloc, rest),
+        0 => read_request(terms, alloc, bytes),
+        1 => read_reply(terms, alloc, bytes),
+        2 => read_large(alloc, bytes),
         _ => Err(WireFault::NotAMessage),
     }
 }
 
 #[tactic(auto, unfolding(crate::specs::Readers::request_at))]
-fn read_request(alloc: Global, bytes: &[u8]) -> Result<(Message, &[u8]), WireFault>
-    ensures reads { Gives (λ x. (message_tree x.0, x.1.now)) result (request_at bytes.now) }
-    ensures spelled { IfOk result (λ x. (0 ∷ 1 ∷ bytes.now ≡ message_bytes (message_tree x.0) ++ x.1.now) × IsMessage (message_tree x.0)) }
+fn read_request<'a, S: Terms>(
+    terms: &S,
+    alloc: Global,
+    bytes: &'a [u8],
+) -> Result<(Said, &'a [u8]), WireFault>
+    ensures reads { Gives (λ x. (said_tree x.0, x.1.now)) result (request_at (S.spelling terms.now) bytes.now) }
+    ensures spelled { IfOk result (λ x. (tag_of (said_tree x.0) ≡ 0) × (bytes.now ≡ fields_bytes (S.spelling terms.now) (said_tree x.0) ++ x.1.now) × IsSaid (S.spelling terms.now) (said_tree x.0)) }
 {
-    let (job, rest) = read_job(&InFull, alloc, bytes)?;
+    let (job, rest) = read_job(terms, alloc, bytes)?;
     if is_job_within(&job) {
-        Ok((Message::Request { job }, rest))
+        Ok((Said::Request { job }, rest))
     } else {
         Err(WireFault::NotAMessage)
     }
 }
 
 #[tactic(auto, unfolding(crate::specs::Readers::reply_at))]
-fn read_reply(alloc: Global, bytes: &[u8]) -> Result<(Message, &[u8]), WireFault>
-    ensures reads { Gives (λ x. (message_tree x.0, x.1.now)) result (reply_at bytes.now) }
-    ensures spelled { IfOk result (λ x. (1 ∷ 1 ∷ bytes.now ≡ message_bytes (message_tree x.0) ++ x.1.now) × IsMessage (message_tree x.0)) }
+fn read_reply<'a, S: Terms>(
+    terms: &S,
+    alloc: Global,
+    bytes: &'a [u8],
+) -> Result<(Said, &'a [u8]), WireFault>
+    ensures reads { Gives (λ x. (said_tree x.0, x.1.now)) result (reply_at (S.spelling terms.now) bytes.now) }
+    ensures spelled { IfOk result (λ x. (tag_of (said_tree x.0) ≡ 1) × (bytes.now ≡ fields_bytes (S.spelling terms.now) (said_tree x.0) ++ x.1.now) × IsSaid (S.spelling terms.now) (said_tree x.0)) }
 {
     let (ticket, rest) = u64::read(alloc, bytes)?;
     let (kinds, rest) = read_kinds(alloc, rest)?;
-    let (table, rest) = read_table(&InFull, alloc, rest)?;
+    let (table, rest) = read_table(terms, alloc, rest)?;
     let (derivations, rest) = read_items(alloc, u32::MAX, rest)?;
-    let reply = Message::Reply {
+    let reply = Said::Reply {
         ticket,
         kinds,
         table,
@@ -89,12 +136,12 @@ fn read_reply(alloc: Global, bytes: &[u8]) -> Result<(Message, &[u8]), WireFault
 }
 
 #[tactic(auto, unfolding(crate::specs::Readers::large_at))]
-fn read_large(alloc: Global, bytes: &[u8]) -> Result<(Message, &[u8]), WireFault>
-    ensures reads { Gives (λ x. (message_tree x.0, x.1.now)) result (large_at bytes.now) }
-    ensures spelled { IfOk result (λ x. (2 ∷ 1 ∷ bytes.now ≡ message_bytes (message_tree x.0) ++ x.1.now) × IsMessage (message_tree x.0)) }
+fn read_large(alloc: Global, bytes: &[u8]) -> Result<(Said, &[u8]), WireFault>
+    ensures reads { Gives (λ x. (said_tree x.0, x.1.now)) result (large_at bytes.now) }
+    ensures spelled { IfOk result (λ x. (tag_of (said_tree x.0) ≡ 2) × (bytes.now ≡ fields_bytes in_full (said_tree x.0) ++ x.1.now) × IsMessage (said_tree x.0)) }
 {
     let (ticket, rest) = u64::read(alloc, bytes)?;
-    Ok((Message::Large { ticket }, rest))
+    Ok((Said::Large { ticket }, rest))
 }
 
 // Kinds that rise.
