@@ -101,13 +101,13 @@ conj_ranges = record { named = named; moved = moved }
     named : (p : PolynomialSpelling) (x : Conj) → IsConj p x → AllByRecursion p.fits (conj_mentions x)
     named p (J.Equal a) fits = (fits, tt)
     named p (J.Unequal a) fits = (fits, tt)
-    named p (J.Less a b) fits = (fits.0, fits.1, tt)
-    named p (J.AtMost a b) fits = (fits.0, fits.1, tt)
+    named p (J.Less a b) fits = (fits.0, (fits.1, tt))
+    named p (J.AtMost a b) fits = (fits.0, (fits.1, tt))
     named p (J.SamePlace a b) fits = tt
     named p (J.OtherPlace a b) fits = tt
     named p (J.Written a) fits = tt
     named p (J.Unwritten a) fits = tt
-    named p (J.Quotient x a b) fits = (fits.1, fits.2, tt)
+    named p (J.Quotient x a b) fits = (fits.1, (fits.2, tt))
 
     moved : (p q : PolynomialSpelling) (x : Conj) → IsConj p x → AllByRecursion q.fits (conj_mentions x) → IsConj q x
     moved p q (J.Equal a) fits all = all.0
@@ -140,9 +140,8 @@ atom_ranges = record {
 -- ---- entries, drops and tables
 
 -- four lists
-module _ {P : Polynomial → Type 0} where
-  pub joined4 : (a b c d : List Polynomial) → AllByRecursion P a → AllByRecursion P b → AllByRecursion P c → AllByRecursion P d → AllByRecursion P (a ++ b ++ c ++ d)
-  joined4 a b c d u v w x = all_joined P a (b ++ c ++ d) u (all_joined P b (c ++ d) v (all_joined P c d w x))
+pub joined4 : (P : Polynomial → Type 0) (a b c d : List Polynomial) → AllByRecursion P a → AllByRecursion P b → AllByRecursion P c → AllByRecursion P d → AllByRecursion P (a ++ b ++ c ++ d)
+joined4 P a b c d u v w x = all_joined P (a ++ b ++ c) d (all_joined P (a ++ b) c (all_joined P a b u v) w) x
 
 pure_ranges : Ranges (λ p. IsList (IsConj p) most_conjuncts) (flat_map conj_mentions)
 pure_ranges = list_ranges conj_ranges most_conjuncts
@@ -155,7 +154,7 @@ entry_ranges = record { named = named; moved = moved }
   where
     named : (p : PolynomialSpelling) (e : Entry) → IsEntry p e → AllByRecursion p.fits (entry_mentions e)
     named p e fits =
-        joined4 (result_mentions e.result) (flat_map conj_mentions e.pure) (flat_map atom_mentions e.pre) (flat_map atom_mentions e.post)
+        joined4 p.fits (result_mentions e.result) (flat_map conj_mentions e.pure) (flat_map atom_mentions e.pre) (flat_map atom_mentions e.post)
         (result_ranges.named p e.result fits.3) (pure_ranges.named p e.pure fits.5) (atoms_ranges.named p e.pre fits.6) (atoms_ranges.named p e.post fits.7)
 
     moved : (p q : PolynomialSpelling) (e : Entry) → IsEntry p e → AllByRecursion q.fits (entry_mentions e) → IsEntry q e
@@ -164,11 +163,12 @@ entry_ranges = record { named = named; moved = moved }
         let pure = flat_map conj_mentions e.pure in
         let pre = flat_map atom_mentions e.pre in
         let post = flat_map atom_mentions e.post in
-        let after = all_second q.fits given (pure ++ pre ++ post) all in
-        let atoms = all_second q.fits pure (pre ++ post) after in
-        (fits.0, fits.1, fits.2, result_ranges.moved p q e.result fits.3 (all_first q.fits given (pure ++ pre ++ post) all), fits.4,
-         pure_ranges.moved p q e.pure fits.5 (all_first q.fits pure (pre ++ post) after),
-         atoms_ranges.moved p q e.pre fits.6 (all_first q.fits pre post atoms), atoms_ranges.moved p q e.post fits.7 (all_second q.fits pre post atoms), fits.8)
+        let three = all_first q.fits (given ++ pure ++ pre) post all in
+        let two = all_first q.fits (given ++ pure) pre three in
+        (fits.0, fits.1, fits.2, result_ranges.moved p q e.result fits.3 (all_first q.fits given pure two), fits.4,
+         pure_ranges.moved p q e.pure fits.5 (all_second q.fits given pure two),
+         atoms_ranges.moved p q e.pre fits.6 (all_second q.fits (given ++ pure) pre three),
+         atoms_ranges.moved p q e.post fits.7 (all_second q.fits (given ++ pure ++ pre) post all), fits.8)
 
 pub cause_ranges : Ranges IsCause cause_mentions
 cause_ranges = record { named = named; moved = moved }

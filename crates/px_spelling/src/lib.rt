@@ -24,7 +24,6 @@ mod laws;
 mod mentions;
 mod numbers;
 mod operands;
-mod ordered;
 mod output;
 mod polynomial_order;
 mod polynomials;
