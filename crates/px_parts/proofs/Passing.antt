@@ -6,7 +6,6 @@ use Rattle.std.proofs.lemmas.Option.{none-some, same_Some}
 use Rattle.std.proofs.lemmas.List.{length-append, length-drop, drop-drop, take-append-drop, take-append-le, drop-append-le}
 use Rattle.std.proofs.Math.Seq.{drop-append_seam}
 use Rattle.px_parts.specs.declared.form.Form.{Form}
-use Rattle.px_parts.specs.declared.form.Form.TheVariants.{Word}
 use Rattle.px_parts.specs.declared.form.Due.{Due}
 use Rattle.px_parts.specs.Forms.{size, due, follow, next_of, next, Passes, stands, moves}
 
@@ -171,24 +170,6 @@ pub passes_front_one : (f : Form) (bytes front after rest : List ℕ) (d : Due) 
     ((n : ℕ) (dues : List Due) → Passes (due d.form (suc n) ∷ dues) after (due d.form n ∷ dues) rest) → (n : ℕ) (dues : List Due) → Passes (due f (suc n) ∷ dues) bytes (due f n ∷ dues) rest
 passes_front_one f bytes front after rest d there is_front is_after is one next =
     passes_front_of f bytes front after rest d there is_front is_after is (passes_single d after rest one next)
-
-pub passes_word : (bytes after : List ℕ) → 4 ≤ length bytes → after ≡ drop 4 bytes → (n : ℕ) (dues : List Due) → Passes (due Word (suc n) ∷ dues) bytes (due Word n ∷ dues) after
-passes_word bytes after there is =
-    passes_front_of Word bytes (take 4 bytes) after after (follow Word (take 4 bytes)) there refl is refl (λ ds. passes_no_more (follow Word (take 4 bytes)) ds after refl)
-
--- a byte that says that nothing follows it
-pub passes_lone_byte : (f : Form) (tag : ℕ) (bytes rest : List ℕ) → bytes ≡ tag ∷ rest → size f ≡ 1 → (follow f (tag ∷ [])).count ≡ 0 →
-    (n : ℕ) (dues : List Due) → Passes (due f (suc n) ∷ dues) bytes (due f n ∷ dues) rest
-passes_lone_byte f tag bytes rest is one none =
-    let there : size f ≤ length bytes = omega (arith, one, ap length is) in
-    passes_front_of f bytes (tag ∷ []) rest rest (follow f (tag ∷ [])) there (rw (one, is) refl) (rw (one, is) refl) refl (λ ds. passes_no_more (follow f (tag ∷ [])) ds rest none)
-
--- a byte that says that one of a form follows it
-pub passes_byte_and : (f g : Form) (tag : ℕ) (bytes after rest : List ℕ) → bytes ≡ tag ∷ after → size f ≡ 1 → follow f (tag ∷ []) ≡ due g 1 →
-    ((n : ℕ) (dues : List Due) → Passes (due g (suc n) ∷ dues) after (due g n ∷ dues) rest) → (n : ℕ) (dues : List Due) → Passes (due f (suc n) ∷ dues) bytes (due f n ∷ dues) rest
-passes_byte_and f g tag bytes after rest is one follows next =
-    let there : size f ≤ length bytes = omega (arith, one, ap length is) in
-    passes_front_one f bytes (tag ∷ []) after rest (due g 1) there (rw (one, is) refl) (rw (one, is) refl) (sym follows) refl next
 
 pub passes_alone : (d : Due) (bytes rest : List ℕ) (all : ℕ) → ((front : List ℕ) → (follow d.form front).count ≡ 0) → all ≡ size d.form * d.count → all ≤ length bytes → rest ≡ drop all bytes →
     (dues : List Due) → Passes (d ∷ dues) bytes dues rest

@@ -46,7 +46,6 @@ impl Reader {
                 start: 0,
                 left: length,
                 skim: Skim::new(alloc),
-                expected: 0,
             },
             refused: false,
         }
