@@ -9,7 +9,7 @@ use Rattle.px_syntax.specs.declared.expression.Expression.{Expression as RustExp
 use Rattle.px_syntax.specs.ExpressionTree.{ExpressionTree, ExpressionTrees, an_expression, call, expression_tree, expressions_of}
 use Rattle.px_syntax.specs.StatementTree.{a_call}
 use Rattle.px_syntax.specs.TypedTree as T
-use Rattle.px_syntax.specs.TypedTree.{Expression}
+use Rattle.px_syntax.specs.TypedTree.{Expression, Argument}
 use Rattle.px_bodies.specs.Types.{given, when, is_value}
 use Rattle.px_bodies.specs.Environment.{Environment, proc_id, value_type}
 use Rattle.px_bodies.specs.Typed.{Typed, of_type, as_type, as_argument}
@@ -57,24 +57,24 @@ longer done v (Some vs) = ap Some (sym (append_assoc done (v ∷ []) vs))
 module _ (env : Environment) (visible : List Local) where
   -- one argument is typed, and the others are left
   pub arguments-next : (w : Option (List TypeName)) (e : ExpressionTree) (rest : ExpressionTrees) (a : Typed) (v : Expression) → typed env visible e ≡ Some a → as_argument w a ≡ Some v
-      → typed_arguments env visible w (an_expression e rest) ≡ given (typed_arguments env visible (after_first w) rest) (λ vs. Some (v ∷ vs))
+      → typed_arguments env visible w (an_expression e rest) ≡ given (typed_arguments env visible (after_first w) rest) (λ vs. Some (T.passed v ∷ vs))
   arguments-next w e rest a v h g =
-      ap (λ o. given o (λ a. given (as_argument w a) (λ x. given (typed_arguments env visible (after_first w) rest) (λ xs. Some (x ∷ xs))))) h
-      ∙ ap (λ o. given o (λ x. given (typed_arguments env visible (after_first w) rest) (λ xs. Some (x ∷ xs)))) g
+      ap (λ o. given o (λ a. given (as_argument w a) (λ x. given (typed_arguments env visible (after_first w) rest) (λ xs. Some (T.passed x ∷ xs))))) h
+      ∙ ap (λ o. given o (λ x. given (typed_arguments env visible (after_first w) rest) (λ xs. Some (T.passed x ∷ xs)))) g
 
-  pub arguments-step : (given_ : List RustExpression) (i : ℕ) (x : RustExpression) (w : Option (List TypeName)) (a : Typed) (v : Expression) (done done' : List Expression) (all : Option (List Expression))
-      → i < length given_ → x ≡ get_or given_ i x → typed env visible (expression_tree x) ≡ Some a → as_argument (option_map (drop i) w) a ≡ Some v → done' ≡ done ++ v ∷ []
+  pub arguments-step : (given_ : List RustExpression) (i : ℕ) (x : RustExpression) (w : Option (List TypeName)) (a : Typed) (v : Expression) (done done' : List Argument) (all : Option (List Argument))
+      → i < length given_ → x ≡ get_or given_ i x → typed env visible (expression_tree x) ≡ Some a → as_argument (option_map (drop i) w) a ≡ Some v → done' ≡ done ++ T.passed v ∷ []
       → all ≡ option_map (λ r. done ++ r) (typed_arguments env visible (option_map (drop i) w) (expressions_of (map expression_tree (drop i given_))))
       → all ≡ option_map (λ r. done' ++ r) (typed_arguments env visible (option_map (drop (i + 1)) w) (expressions_of (map expression_tree (drop (i + 1) given_))))
   arguments-step given_ i x w a v done done' all l is h g d before =
       before
       ∙ ap (λ es. option_map (λ r. done ++ r) (typed_arguments env visible (option_map (drop i) w) (expressions_of es))) (drop-next expression_tree given_ i x l is)
       ∙ ap (option_map (λ r. done ++ r)) (arguments-next (option_map (drop i) w) (expression_tree x) (expressions_of (map expression_tree (drop (i + 1) given_))) a v h g)
-      ∙ longer done v (typed_arguments env visible (after_first (option_map (drop i) w)) (expressions_of (map expression_tree (drop (i + 1) given_))))
+      ∙ longer done (T.passed v) (typed_arguments env visible (after_first (option_map (drop i) w)) (expressions_of (map expression_tree (drop (i + 1) given_))))
       ∙ ap₂ (λ z w'. option_map (λ r. z ++ r) (typed_arguments env visible w' (expressions_of (map expression_tree (drop (i + 1) given_))))) (sym d) (after_first-drop i w)
 
   -- a parameter is left without an argument
-  pub arguments-missing : (given_ : List RustExpression) (i : ℕ) (w : Option (Bor (List Parameter))) (ps : Bor (List Parameter)) (done : List Expression) (all : Option (List Expression))
+  pub arguments-missing : (given_ : List RustExpression) (i : ℕ) (w : Option (Bor (List Parameter))) (ps : Bor (List Parameter)) (done : List Argument) (all : Option (List Argument))
       → i ≡ length given_ → w ≡ Some ps → i < length ps.now
       → all ≡ option_map (λ r. done ++ r) (typed_arguments env visible (option_map (drop i) (wanted_of w)) (expressions_of (map expression_tree (drop i given_))))
       → all ≡ None
@@ -94,11 +94,11 @@ module _ (env : Environment) (visible : List Local) where
       missing (suc i) (t ∷ ts) h = missing i ts (omega arith)
 
 -- the value of a call of this type
-pub call-is : (env : Environment) (f : List ℕ) (site : Site) (arguments : List Expression) (t : TypeName) → call_type (env.signature f) ≡ Some t → true ≡ is_value t
-    → typed_call env f site arguments ≡ Some (of_type t (T.call (proc_id env f) (T.expressions_of arguments) (value_type env t) site))
+pub call-is : (env : Environment) (f : List ℕ) (site : Site) (arguments : List Argument) (t : TypeName) → call_type (env.signature f) ≡ Some t → true ≡ is_value t
+    → typed_call env f site arguments ≡ Some (of_type t (T.call (proc_id env f) (T.arguments_of arguments) (value_type env t) site))
 call-is env f site arguments t h v =
-    ap (λ o. given o (λ t. when (is_value t) (of_type t (T.call (proc_id env f) (T.expressions_of arguments) (value_type env t) site)))) h
-    ∙ ap (λ b. when b (of_type t (T.call (proc_id env f) (T.expressions_of arguments) (value_type env t) site))) (sym v)
+    ap (λ o. given o (λ t. when (is_value t) (of_type t (T.call (proc_id env f) (T.arguments_of arguments) (value_type env t) site)))) h
+    ∙ ap (λ b. when b (of_type t (T.call (proc_id env f) (T.arguments_of arguments) (value_type env t) site))) (sym v)
 
 -- calls, where the parameters of the called name are known
 module _ (env : Environment) (visible : List Local) (f : List ℕ) (site : Site) (es : ExpressionTrees) (wanted : Option (List TypeName)) (h : callable env visible f ≡ Some wanted) where
@@ -106,5 +106,5 @@ module _ (env : Environment) (visible : List Local) (f : List ℕ) (site : Site)
   call-typed = ap (λ o. given o (λ w. given (typed_arguments env visible w es) (typed_call env f site))) h
 
   -- one whose result isn't used
-  pub run-typed : typed_simple env visible (a_call (call f site es)) ≡ given (typed_arguments env visible wanted es) (λ xs. Some (T.run_call (proc_id env f) (T.expressions_of xs) site))
-  run-typed = ap (λ o. given o (λ w. given (typed_arguments env visible w es) (λ xs. Some (T.run_call (proc_id env f) (T.expressions_of xs) site)))) h
+  pub run-typed : typed_simple env visible (a_call (call f site es)) ≡ given (typed_arguments env visible wanted es) (λ xs. Some (T.run_call (proc_id env f) (T.arguments_of xs) site))
+  run-typed = ap (λ o. given o (λ w. given (typed_arguments env visible w es) (λ xs. Some (T.run_call (proc_id env f) (T.arguments_of xs) site)))) h

@@ -17,7 +17,7 @@ use Rattle.px_syntax.specs.ExpressionTree.{ExpressionTree, ExpressionTrees}
 use Rattle.px_syntax.specs.StatementTree as S
 use Rattle.px_syntax.specs.StatementTree.{InitTree, SimpleTree, FirstTree, StatementTree, StatementTrees, statements_of}
 use Rattle.px_syntax.specs.TypedTree as T
-use Rattle.px_syntax.specs.TypedTree.{Expression, Condition, Place}
+use Rattle.px_syntax.specs.TypedTree.{Expression, Argument, Condition, Place}
 use Rattle.px_bodies.specs.Types.{when, given, int, is_value, is_int, pointee, same_type}
 use Rattle.px_bodies.specs.Environment.{Environment, result_of}
 use Rattle.px_bodies.specs.Typed.{Typed, of_type, a_null, a_zero, a_test, as_type, as_argument, as_place, as_freed, common_type, compared_at, typed_constant, typed_minus, typed_equality, typed_cell, typed_indirection, field_named, typed_arrow}
@@ -216,7 +216,7 @@ module _ (env : Environment) (types : TypeName → ℕ) (procs : List ℕ → �
   unary-alike Not site at a b h = tt
   unary-alike Indirection site at a b h = indirection-alike site a b h
 
-  call-alike : (f : List ℕ) (site : Site) (xs ys : List Expression) → Both Alike (typed_call env f site xs) (typed_call other f site ys)
+  call-alike : (f : List ℕ) (site : Site) (xs ys : List Argument) → Both Alike (typed_call env f site xs) (typed_call other f site ys)
   call-alike f site xs ys = same-given Alike (call_type (env.signature f)) _ _ (λ t. both-when Alike (is_value t) _ _ (refl, λ t. tt))
 
   mutual

@@ -10,7 +10,7 @@ use Rattle.px_syntax.specs.declared.typed_expression.Arithmetic.TheVariants.{Add
 use Rattle.px_syntax.specs.declared.typed_expression.Relation.TheVariants as R
 use Rattle.px_syntax.specs.ExpressionTree.{ExpressionTree, ExpressionTrees, constant, null, variable, unary, binary, member, call, free, get_char, malloc, no_expressions, an_expression}
 use Rattle.px_syntax.specs.TypedTree as T
-use Rattle.px_syntax.specs.TypedTree.{Expression, Condition}
+use Rattle.px_syntax.specs.TypedTree.{Expression, Argument, Condition}
 use Rattle.px_bodies.specs.Types.{when, given, int, is_value}
 use Rattle.px_bodies.specs.Environment.{Environment, Signature, proc_id, value_type}
 use Rattle.px_bodies.specs.Typed.{Typed, of_type, a_null, a_test, as_type, as_argument, as_condition, typed_constant, typed_arithmetic, typed_minus, typed_order, typed_equality, typed_indirection, typed_arrow, typed_malloc}
@@ -50,7 +50,7 @@ abbrev pub after_first : Option (List TypeName) → Option (List TypeName)
 after_first wanted = option_map (drop 1) wanted
 
 -- no parameter is without an argument
-abbrev pub none_is_missing : Option (List TypeName) → Option (List Expression)
+abbrev pub none_is_missing : Option (List TypeName) → Option (List Argument)
 none_is_missing None = Some []
 none_is_missing (Some []) = Some []
 none_is_missing (Some (t ∷ ts)) = None
@@ -79,9 +79,9 @@ module _ (env : Environment) where
   typed_unary Indirection site at a = typed_indirection env site a
 
   -- the value of a call
-  abbrev pub typed_call : List ℕ → Site → List Expression → Option Typed
+  abbrev pub typed_call : List ℕ → Site → List Argument → Option Typed
   typed_call f site arguments =
-      given (call_type (env.signature f)) (λ t. when (is_value t) (of_type t (T.call (proc_id env f) (T.expressions_of arguments) (value_type env t) site)))
+      given (call_type (env.signature f)) (λ t. when (is_value t) (of_type t (T.call (proc_id env f) (T.arguments_of arguments) (value_type env t) site)))
 
   abbrev mutual
     -- an expression where these locals are visible
@@ -100,11 +100,11 @@ module _ (env : Environment) where
     typed visible (get_char site) = Some (of_type int (T.get_char site))
     typed visible (malloc cast site t) = typed_malloc env cast site t
 
-    -- as many arguments as parameters, and each of its parameter's type (C17 6.5.2.2)
-    pub typed_arguments : List Local → Option (List TypeName) → ExpressionTrees → Option (List Expression)
+    -- as many arguments as parameters, each of its parameter's type, and each is passed (C17 6.5.2.2)
+    pub typed_arguments : List Local → Option (List TypeName) → ExpressionTrees → Option (List Argument)
     typed_arguments visible wanted no_expressions = none_is_missing wanted
     typed_arguments visible wanted (an_expression e rest) =
-        given (typed visible e) (λ a. given (as_argument wanted a) (λ x. given (typed_arguments visible (after_first wanted) rest) (λ xs. Some (x ∷ xs))))
+        given (typed visible e) (λ a. given (as_argument wanted a) (λ x. given (typed_arguments visible (after_first wanted) rest) (λ xs. Some (T.passed x ∷ xs))))
 
   -- a value of type t
   abbrev pub typed_as : List Local → TypeName → ExpressionTree → Option Expression

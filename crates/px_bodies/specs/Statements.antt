@@ -81,7 +81,7 @@ module _ (env : Environment) where
   typed_simple visible (increment place) = given (typed_place visible place) (λ p. typed_update Add p (T.constant (pos 1)))
   typed_simple visible (decrement place) = given (typed_place visible place) (λ p. typed_update Subtract p (T.constant (pos 1)))
   typed_simple visible (a_call (call f site arguments)) =
-      given (callable env visible f) (λ wanted. given (typed_arguments env visible wanted arguments) (λ xs. Some (T.run_call (proc_id env f) (T.expressions_of xs) site)))
+      given (callable env visible f) (λ wanted. given (typed_arguments env visible wanted arguments) (λ xs. Some (T.run_call (proc_id env f) (T.arguments_of xs) site)))
   typed_simple visible (a_call (free site e)) =
       given (typed env visible e) (λ a. given (as_freed a) (λ p. Some (T.free p.1 (type_id env p.0) site)))
   typed_simple visible (a_call (get_char site)) = Some (T.input site)

@@ -1,6 +1,7 @@
 ghost use Rattle.std.specs.Prelude.{◌≡◌, ◌++◌, ◌∷◌, [], List, map, OnOk, Some};
 ghost use Rattle.px_syntax.specs.ExpressionTree.{ExpressionTree, expression_tree, expressions_of, link_tree, chained, members};
-ghost use Rattle.px_syntax.specs.TypedViews.{typed_expression, typed_condition};
+ghost use Rattle.px_syntax.specs.TypedTree.{passed};
+ghost use Rattle.px_syntax.specs.TypedViews.{typed_expression, typed_argument, typed_condition};
 ghost use Rattle.px_bodies.specs.Environment.{environment_of};
 ghost use Rattle.px_bodies.specs.Lent.{type_of};
 ghost use Rattle.px_bodies.specs.Locals.{Local};
@@ -14,7 +15,9 @@ use crate::operators::{Sites, arrow, binary, constant, malloc, unary};
 use crate::refusal::Refusal;
 use crate::{CType, Environment};
 use px_base::Site;
-use px_syntax::{Arrow, Condition, Expression, Link, Name, Parameter, ResultType, TypedExpression};
+use px_syntax::{
+    Argument, Arrow, Condition, Expression, Link, Name, Parameter, ResultType, TypedExpression,
+};
 use px_terms::NoMemory;
 use std::alloc::Global;
 
@@ -99,9 +102,9 @@ fn call<'a>(
     environment: &Environment<'a>,
     name: &Name,
     site: Site,
-    arguments: Vec<TypedExpression>,
+    arguments: Vec<Argument>,
 ) -> Result<Operand<'a>, Refusal>
-    ensures { Yields operand_seen result (rules.typed_call (environment_of environment.now) name.now site (map typed_expression arguments.items)) }
+    ensures { Yields operand_seen result (rules.typed_call (environment_of environment.now) name.now site (map typed_argument arguments.items)) }
 {
     let value = call_type(environment, name)?;
     if !value.is_value() {
@@ -242,8 +245,8 @@ pub fn arguments<'a>(
     locals: &Locals<'a>,
     given: &'a [Expression],
     wanted: Option<&'a [Parameter]>,
-) -> Result<Vec<TypedExpression>, Refusal>
-    ensures { Yields (λ xs. map typed_expression xs.items) result (rules.typed_arguments (environment_of environment.now) locals.now.visible (wanted_of wanted.entry) (expressions_of (map expression_tree given.now))) }
+) -> Result<Vec<Argument>, Refusal>
+    ensures { Yields (λ xs. map typed_argument xs.items) result (rules.typed_arguments (environment_of environment.now) locals.now.visible (wanted_of wanted.entry) (expressions_of (map expression_tree given.now))) }
 {
     let mut all = Vec::with_capacity(alloc, given.len())?;
     for i in 0..given.len() {
@@ -256,11 +259,11 @@ pub fn arguments<'a>(
     }
 }
 
-// One more expression.
-fn put(all: &mut Vec<TypedExpression>, expression: TypedExpression) -> Result<(), NoMemory>
-    ensures { OnOk result (map typed_expression all.new.items ≡ map typed_expression all.old.items ++ typed_expression expression ∷ []) }
+// One more argument, which is passed.
+fn put(all: &mut Vec<Argument>, value: TypedExpression) -> Result<(), NoMemory>
+    ensures { OnOk result (map typed_argument all.new.items ≡ map typed_argument all.old.items ++ passed (typed_expression value) ∷ []) }
 {
-    all.push(expression)?;
+    all.push(Argument::Passed { value })?;
     Ok(())
 }
 

@@ -2,6 +2,7 @@ pub mod CalleeLemmas
 pub mod RequiredLemmas
 pub mod ArgumentLemmas
 pub mod MeetLemmas
+pub mod KeyLemmas
 pub mod AssumeLemmas
 pub mod LeaveLemmas
 pub mod FinishLemmas

@@ -2,6 +2,7 @@ pub mod Calls
 pub mod Required
 pub mod Arguments
 pub mod Meeting
+pub mod Keys
 pub mod Assuming
 pub mod Leaving
 pub mod Finishing

@@ -1,4 +1,4 @@
-ghost use Rattle.std.specs.Prelude.{◌≡◌, ◌+◌, ◌||◌, Bool, true, false, List, IfOk, OnOk};
+ghost use Rattle.std.specs.Prelude.{◌≡◌, ◌+◌, ◌||◌, Bool, true, false, List, map, IfOk, OnOk};
 ghost use Rattle.std.specs.List.{list_any};
 ghost use Rattle.px_terms.specs.declared.conjuncts.Conj.{Conj as ConjOf};
 ghost use Rattle.px_entry.specs.Decided as decisions;
@@ -6,7 +6,9 @@ ghost use Rattle.px_callgraph.specs.Renaming as renaming;
 ghost use Rattle.px_entry.specs.Sorts.{is_long, is_long_conjunct};
 ghost use Rattle.px_match.specs.Through.{IsClaimed};
 ghost use Rattle.px_calls.specs.Assuming.{IsAssumed, AreAssumed};
+ghost use Rattle.px_calls.specs.Keys as numbers;
 
+use crate::keys::{is_among, key_of, keys_of};
 use px_match::{Claimed, claim_through, stands};
 use px_terms::{Conj, Content, Items, NoMemory, Var, VarInfo};
 use std::alloc::Global;
@@ -22,7 +24,8 @@ pub(crate) struct Assumed {
     pub long: bool,
 }
 
-/// Each conjunct of an entry is assumed in turn. It is tested against what stands by then.
+/// Each conjunct of an entry is assumed in turn. It is tested against what stands by then: against those of its own
+/// number, since an entry's conjuncts are mostly of variables that are new to the caller, and so are like no other.
 pub(crate) fn assume_all(
     alloc: Global,
     vars: &[VarInfo],
@@ -37,9 +40,11 @@ pub(crate) fn assume_all(
         count: 0,
         long: false,
     };
+    let ours = keys_of(alloc, pure)?;
+    let mut keys = Vec::new(alloc);
     for conjunct in theirs {
         let claimed = claim_through(alloc, substitution, conjunct)?;
-        assume_claim(vars, pure, &mut assumed, claimed)?;
+        assume_claim(vars, pure, &ours, &mut assumed, &mut keys, claimed)?;
     }
     Ok(assumed)
 }
@@ -48,15 +53,20 @@ pub(crate) fn assume_all(
 fn assume_claim(
     vars: &[VarInfo],
     pure: &[Conj],
+    ours: &[u32],
     assumed: &mut Assumed,
+    keys: &mut Vec<u32>,
     claimed: Claimed,
 ) -> Result<(), NoMemory>
-    ensures { OnOk result ((stood : List ConjOf) (long : Bool) (claim : renaming.Claim) → IsClaimed claimed claim → IsAssumed pure.now stood long assumed.old → IsAssumed pure.now (renaming.assume_claim vars.now stood claim) (long || list_any is_long (renaming.claim_terms claim)) assumed.new) }
+    requires ours { ours.now ≡ map numbers.key_of pure.now }
+    requires keys { keys.old.items ≡ map numbers.key_of assumed.old.added }
+    ensures keys { OnOk result (keys.new.items ≡ map numbers.key_of assumed.new.added) }
+    ensures assumed { OnOk result ((stood : List ConjOf) (long : Bool) (claim : renaming.Claim) → IsClaimed claimed claim → IsAssumed pure.now stood long assumed.old → IsAssumed pure.now (renaming.assume_claim vars.now stood claim) (long || list_any is_long (renaming.claim_terms claim)) assumed.new) }
 {
     match claimed {
         Claimed::Surely => Ok(()),
         Claimed::Never => Ok(()),
-        Claimed::Claims(conjunct) => assume_short(vars, pure, assumed, conjunct),
+        Claimed::Claims(conjunct) => assume_short(vars, pure, ours, assumed, keys, conjunct),
         Claimed::Long => note_long(assumed),
     }
 }
@@ -65,24 +75,59 @@ fn assume_claim(
 fn assume_short(
     vars: &[VarInfo],
     pure: &[Conj],
+    ours: &[u32],
     assumed: &mut Assumed,
+    keys: &mut Vec<u32>,
     conjunct: Conj,
 ) -> Result<(), NoMemory>
-    ensures { OnOk result ((stood : List ConjOf) (long : Bool) → is_long_conjunct conjunct ≡ false → IsAssumed pure.now stood long assumed.old → IsAssumed pure.now (decisions.assume vars.now stood conjunct) long assumed.new) }
+    requires ours { ours.now ≡ map numbers.key_of pure.now }
+    requires keys { keys.old.items ≡ map numbers.key_of assumed.old.added }
+    ensures keys { OnOk result (keys.new.items ≡ map numbers.key_of assumed.new.added) }
+    ensures assumed { OnOk result ((stood : List ConjOf) (long : Bool) → is_long_conjunct conjunct ≡ false → IsAssumed pure.now stood long assumed.old → IsAssumed pure.now (decisions.assume vars.now stood conjunct) long assumed.new) }
 {
-    if stands_by_now(vars, pure, assumed.added.as_slice(), &conjunct) {
+    let key = key_of(&conjunct);
+    if stands_by_now(
+        vars,
+        pure,
+        ours,
+        assumed.added.as_slice(),
+        keys,
+        key,
+        &conjunct,
+    ) {
         return Ok(());
     }
     assumed.count = one_more(assumed.count)?;
     assumed.added.push(conjunct)?;
+    keys.push(key)?;
     Ok(())
 }
 
-// Whether a conjunct adds nothing to those of the caller and those that were added.
-fn stands_by_now(vars: &[VarInfo], pure: &[Conj], added: &[Conj], conjunct: &Conj) -> bool
-    ensures { result ≡ (decisions.is_true (decisions.decided vars.now conjunct.now) || (decisions.stands_in pure.now conjunct.now || decisions.stands_in added.now conjunct.now)) }
+// Whether a conjunct adds nothing to those of the caller and those that were added, where these are their numbers.
+fn stands_by_now(
+    vars: &[VarInfo],
+    pure: &[Conj],
+    ours: &[u32],
+    added: &[Conj],
+    keys: &[u32],
+    key: u32,
+    conjunct: &Conj,
+) -> bool
+    requires ours { ours.now ≡ map numbers.key_of pure.now }
+    requires keys { keys.now ≡ map numbers.key_of added.now }
+    requires key { key ≡ numbers.key_of conjunct.now }
+    ensures { is_long_conjunct conjunct.now ≡ false → result ≡ (decisions.is_true (decisions.decided vars.now conjunct.now) || (decisions.stands_in pure.now conjunct.now || decisions.stands_in added.now conjunct.now)) }
 {
-    stands(vars, pure, conjunct) || stands(vars, added, conjunct)
+    is_decided_true(vars, conjunct)
+        || is_among(ours, pure, key, conjunct)
+        || is_among(keys, added, key, conjunct)
+}
+
+fn is_decided_true(vars: &[VarInfo], conjunct: &Conj) -> bool
+    ensures { result ≡ decisions.is_true (decisions.decided vars.now conjunct.now) }
+{
+    let none: &[Conj] = &[];
+    stands(vars, none, conjunct)
 }
 
 // A conjunct that is too long is always added.

@@ -10,6 +10,7 @@ mod callees;
 mod choosing;
 mod entering;
 mod finishing;
+mod keys;
 mod leaving;
 mod meeting;
 mod names;

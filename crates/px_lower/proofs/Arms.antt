@@ -17,18 +17,20 @@ use Rattle.px_syntax.specs.declared.typed_expression.CellLink.{CellLink}
 use Rattle.px_syntax.specs.declared.typed_expression.ArithmeticLink.{ArithmeticLink}
 use Rattle.px_syntax.specs.declared.typed_expression.TypedExpression.{TypedExpression, TypedExpression-F, out-TypedExpression, roll-TypedExpression, roll-out-TypedExpression}
 use Rattle.px_syntax.specs.declared.typed_expression.TypedExpression.TheVariants as E
+use Rattle.px_syntax.specs.declared.typed_expression.Argument.{Argument}
+use Rattle.px_syntax.specs.declared.typed_expression.Argument.TheVariants as A
 use Rattle.px_syntax.specs.declared.typed_expression.Condition.{Condition}
-use Rattle.px_syntax.specs.TypedTree.{Expression, Expressions, no_expressions, an_expression, Condition as Test, expressions_of, constant, null, local, negated, arithmetic, truth, cell, allocate, get_char, call, stop}
-use Rattle.px_syntax.specs.TypedViews.{typed_expression, typed_condition, arithmetic_link, calculated, cells}
+use Rattle.px_syntax.specs.TypedTree.{Expression, Expressions, no_expressions, an_expression, Arguments, no_arguments, an_argument, Condition as Test, expressions_of, arguments_of, constant, null, local, negated, arithmetic, truth, cell, allocate, get_char, call, stop}
+use Rattle.px_syntax.specs.TypedViews.{typed_expression, typed_argument, typed_condition, arithmetic_link, calculated, cells}
 use Rattle.px_syntax.proofs.TypedEquations.{typed-Arithmetic, typed-Stop}
-use Rattle.px_meaning.proofs.TreesSeen.{arithmetic_seen, cell_seen, call_seen, stop_seen}
+use Rattle.px_meaning.proofs.TreesSeen.{arithmetic_seen, cell_seen, call_seen, erased_seen, stop_seen}
 use Rattle.px_lower.specs.declared.put.Given.{Given}
 use Rattle.px_lower.specs.declared.put.Decided.{Decided}
 use Rattle.px_lower.specs.declared.put.Halt.{Halt}
 use Rattle.px_lower.specs.declared.put.Halt.TheVariants.{Stopped, NoMemory}
 use Rattle.px_lower.specs.declared.commands.Operands.{Operands}
-use Rattle.px_lower.specs.Lowering.{Lowered, before, and_then, ready, doing, giving, reached, called, stopping, lowered_expression, lowered_expressions, lowered_passed, lowered_condition, operation, result_slot}
-use Rattle.px_lower.specs.Chains.{Puts, Gives, GivesAll, Decides, Does}
+use Rattle.px_lower.specs.Lowering.{Lowered, before, and_then, ready, doing, giving, reached, called, stopping, lowered_expression, lowered_arguments, lowered_passed, lowered_condition, operation, result_slot}
+use Rattle.px_lower.specs.Chains.{Puts, Gives, GivesAll, GivesMore, Decides, Does}
 use Rattle.px_lower.proofs.Chains.{fails_first, goes_on, left_fails, right_fails, calculates, calculated_fails, cell_fails, cell_loads, truth_gives, truth_fails}
 
 -- ---- what a `?` hands on
@@ -97,16 +99,16 @@ module _ (c : Test) (n : ℕ) (first mid : List CommandTree) where
     pub goes_on_with_outcome : (x : Decided) (last : List CommandTree) (r : Result B Halt) → Decides (lowered_condition c n) first mid (Ok x) → Puts value next' (f x.slot x.next) mid last r → Puts value next' whole first last r
     goes_on_with_outcome x last r p q = subst (λ w. Puts value next' w first last r) (sym is) (goes_on slot after value next' (lowered_condition c n) f first mid last x r p q)
 
-module _ (es : Expressions) (n : ℕ) (first mid : List CommandTree) where
+module _ (es : Arguments) (n : ℕ) (first mid : List CommandTree) where
   -- arguments, and what is made of their values
-  module _ {B D : Type 0} (value : B → D) (next' : B → ℕ) (whole : Lowered D) (f : List Operand → ℕ → Lowered D) (is : whole ≡ and_then (lowered_expressions es n) f) where
-    pub ends_with_arguments : (h : Halt) (r : Result B Halt) → IsErr r h → GivesAll (lowered_expressions es n) first mid (Err h) → Puts value next' whole first mid r
+  module _ {B D : Type 0} (value : B → D) (next' : B → ℕ) (whole : Lowered D) (f : List Operand → ℕ → Lowered D) (is : whole ≡ and_then (lowered_arguments es n) f) where
+    pub ends_with_arguments : (h : Halt) (r : Result B Halt) → IsErr r h → GivesAll (lowered_arguments es n) first mid (Err h) → Puts value next' whole first mid r
     ends_with_arguments h r p q =
         handed_on value next' whole first mid r h p
-        (subst (λ w. Puts value next' w first mid (Err h)) (sym is) (fails_first operands behind value next' (lowered_expressions es n) f first mid mid h q))
+        (subst (λ w. Puts value next' w first mid (Err h)) (sym is) (fails_first operands behind value next' (lowered_arguments es n) f first mid mid h q))
 
-    pub goes_on_with_arguments : (x : Operands) (last : List CommandTree) (r : Result B Halt) → GivesAll (lowered_expressions es n) first mid (Ok x) → Puts value next' (f x.operands.items x.next) mid last r → Puts value next' whole first last r
-    goes_on_with_arguments x last r p q = subst (λ w. Puts value next' w first last r) (sym is) (goes_on operands behind value next' (lowered_expressions es n) f first mid last x r p q)
+    pub goes_on_with_arguments : (x : Operands) (last : List CommandTree) (r : Result B Halt) → GivesAll (lowered_arguments es n) first mid (Ok x) → Puts value next' (f x.operands.items x.next) mid last r → Puts value next' whole first last r
+    goes_on_with_arguments x last r p q = subst (λ w. Puts value next' w first last r) (sym is) (goes_on operands behind value next' (lowered_arguments es n) f first mid last x r p q)
 
 module _ (w : Lowered ⊤) (first mid : List CommandTree) where
   -- what gives no value, and what follows it
@@ -211,20 +213,20 @@ module _ (e f : TypedExpression) (links : List CellLink) (at : Box TypedExpressi
       last ≡ mid ++ load x.next x.operand l.field l.block l.site ∷ unset x.next ∷ [] → z ≡ suc x.next → Does passed_cell first last (Ok z)
   passed_cell_returns x z last q c m = goes_on_with_value (cells (typed_expression f) links) n first mid nothing itself passed_cell reaching passed_cell_is x last (Ok z) q (c, refl, sym m)
 
-module _ (e : TypedExpression) (es : List TypedExpression) (proc : ProcId) (row : Vec TypedExpression Global) (type : ValueType) (site : Site) (is : e ≡ E.Call proc row type site) (is_es : es ≡ row.items) (n : ℕ) (first mid : List CommandTree) where
-  abbrev all_arguments : Expressions
-  all_arguments = expressions_of (map typed_expression es)
+module _ (e : TypedExpression) (es : List Argument) (proc : ProcId) (row : Vec Argument Global) (type : ValueType) (site : Site) (is : e ≡ E.Call proc row type site) (is_es : es ≡ row.items) (n : ℕ) (first mid : List CommandTree) where
+  abbrev all_arguments : Arguments
+  all_arguments = arguments_of (map typed_argument es)
 
   abbrev calling : List Operand → ℕ → Lowered Operand
   calling xs n = called proc xs site n
 
-  call_is : lowered_expression (typed_expression e) n ≡ and_then (lowered_expressions all_arguments n) calling
+  call_is : lowered_expression (typed_expression e) n ≡ and_then (lowered_arguments all_arguments n) calling
   call_is = ap (λ t. lowered_expression t n) (call_seen e es proc row type site is is_es)
 
-  pub arguments_fail : (h : Halt) (z : Result Given Halt) → IsErr z h → GivesAll (lowered_expressions all_arguments n) first mid (Err h) → Gives (lowered_expression (typed_expression e) n) first mid z
+  pub arguments_fail : (h : Halt) (z : Result Given Halt) → IsErr z h → GivesAll (lowered_arguments all_arguments n) first mid (Err h) → Gives (lowered_expression (typed_expression e) n) first mid z
   arguments_fail h z p q = ends_with_arguments all_arguments n first mid operand next (lowered_expression (typed_expression e) n) calling call_is h z p q
 
-  pub call_returns : (x : Operands) (z : Given) (last : List CommandTree) → GivesAll (lowered_expressions all_arguments n) first mid (Ok x) →
+  pub call_returns : (x : Operands) (z : Given) (last : List CommandTree) → GivesAll (lowered_arguments all_arguments n) first mid (Ok x) →
       last ≡ mid ++ command.call (Some x.next) proc x.operands.items site ∷ read x.next site ∷ [] → z.operand ≡ Slot x.next → z.next ≡ suc x.next → Gives (lowered_expression (typed_expression e) n) first last (Ok z)
   call_returns x z last q c o m = goes_on_with_arguments all_arguments n first mid operand next (lowered_expression (typed_expression e) n) calling call_is x last (Ok z) q (c, ap Some (sym o), sym m)
 
@@ -235,13 +237,13 @@ module _ (e : TypedExpression) (es : List TypedExpression) (proc : ProcId) (row 
   abbrev passing : List Operand → ℕ → Lowered ⊤
   passing xs n = and_then (doing (command.call None proc xs site) n) (λ _ n. ready tt n)
 
-  passed_call_is : passed_call ≡ and_then (lowered_expressions all_arguments n) passing
+  passed_call_is : passed_call ≡ and_then (lowered_arguments all_arguments n) passing
   passed_call_is = ap (λ t. lowered_passed (an_expression t no_expressions) n) (call_seen e es proc row type site is is_es)
 
-  pub passed_arguments_fail : (h : Halt) (z : Result ℕ Halt) → IsErr z h → GivesAll (lowered_expressions all_arguments n) first mid (Err h) → Does passed_call first mid z
+  pub passed_arguments_fail : (h : Halt) (z : Result ℕ Halt) → IsErr z h → GivesAll (lowered_arguments all_arguments n) first mid (Err h) → Does passed_call first mid z
   passed_arguments_fail h z p q = ends_with_arguments all_arguments n first mid nothing itself passed_call passing passed_call_is h z p q
 
-  pub passed_call_returns : (x : Operands) (z : ℕ) (last : List CommandTree) → GivesAll (lowered_expressions all_arguments n) first mid (Ok x) → last ≡ mid ++ command.call None proc x.operands.items site ∷ [] → z ≡ x.next → Does passed_call first last (Ok z)
+  pub passed_call_returns : (x : Operands) (z : ℕ) (last : List CommandTree) → GivesAll (lowered_arguments all_arguments n) first mid (Ok x) → last ≡ mid ++ command.call None proc x.operands.items site ∷ [] → z ≡ x.next → Does passed_call first last (Ok z)
   passed_call_returns x z last q c m = goes_on_with_arguments all_arguments n first mid nothing itself passed_call passing passed_call_is x last (Ok z) q (c, refl, sym m)
 
 module _ (e : TypedExpression) (es : List TypedExpression) (number : ℕ) (site : Site) (row : Vec TypedExpression Global) (is : e ≡ E.Stop number site row) (is_es : es ≡ row.items) (n : ℕ) (first mid : List CommandTree) where
@@ -257,6 +259,51 @@ module _ (e : TypedExpression) (es : List TypedExpression) (number : ℕ) (site 
   pub stop_returns : (x : ℕ) (last : List CommandTree) → Does all_parts first mid (Ok x) → last ≡ mid ++ command.stop number site ∷ [] → Gives (lowered_expression (typed_expression e) n) first last (Err (Stopped x))
   stop_returns x last q c = goes_on_there all_parts first mid operand next (lowered_expression (typed_expression e) n) (λ _ n. stopping number site n) stop_is x last (Err (Stopped x)) q (c, refl, refl)
 
+-- ---- an argument
+
+module _ (e : Argument) (n : ℕ) (first : List CommandTree) where
+  abbrev pub this_argument : Lowered (List Operand)
+  this_argument = lowered_arguments (an_argument (typed_argument e) no_arguments) n
+
+  -- it is the error of what was called
+  pub argument_handed_on : (mid : List CommandTree) (there values : List Operand) (h : Halt) (r : Result ℕ Halt) → IsErr r h → GivesMore this_argument first mid there values (Err h) → GivesMore this_argument first mid there values r
+  argument_handed_on mid there values h r p q = subst (λ z. GivesMore this_argument first mid there values z) (sym (p.1 ∙ ap (λ z. Err z) p.2)) q
+
+  pub argument_without_memory : (mid : List CommandTree) (there values : List Operand) (r : Result ℕ Halt) → IsErr r NoMemory → GivesMore this_argument first mid there values r
+  argument_without_memory mid there values r p = argument_handed_on mid there values NoMemory r p tt
+
+  module _ (t : TypedExpression) (is : e ≡ A.Passed t) (mid : List CommandTree) where
+    abbrev alone : Operand → ℕ → Lowered (List Operand)
+    alone x n = ready (x ∷ []) n
+
+    value_is : this_argument ≡ and_then (lowered_expression (typed_expression t) n) alone
+    value_is = ap (λ e. lowered_arguments (an_argument (typed_argument e) no_arguments) n) is
+
+    pub value_fails : (there values : List Operand) (h : Halt) → Gives (lowered_expression (typed_expression t) n) first mid (Err h) → GivesMore this_argument first mid there values (Err h)
+    value_fails there values h p =
+        subst (λ w. GivesMore w first mid there values (Err h)) (sym value_is) (fails_first operand next (λ xs. xs) (λ xs. 0) (lowered_expression (typed_expression t) n) alone first mid mid h p)
+
+    pub value_returns : (there values : List Operand) (x : Given) → Gives (lowered_expression (typed_expression t) n) first mid (Ok x) → values ≡ there ++ x.operand ∷ [] → GivesMore this_argument first mid there values (Ok x.next)
+    value_returns there values x p are =
+        subst (λ w. GivesMore w first mid there values (Ok x.next)) (sym value_is)
+        (x.operand ∷ [], are, goes_on operand next (λ xs. xs) (λ xs. x.next) (lowered_expression (typed_expression t) n) alone first mid mid x (Ok (x.operand ∷ [])) p (sym (append-nil mid), refl, refl))
+
+  module _ (es : List TypedExpression) (row : Vec TypedExpression Global) (is : e ≡ A.Erased row) (is_es : es ≡ row.items) (mid : List CommandTree) (there : List Operand) where
+    abbrev erased_parts : Lowered ⊤
+    erased_parts = lowered_passed (expressions_of (map typed_expression es)) n
+
+    abbrev no_value : ⊤ → ℕ → Lowered (List Operand)
+    no_value _ n = ready [] n
+
+    erased_is : this_argument ≡ and_then erased_parts no_value
+    erased_is = ap (λ a. lowered_arguments (an_argument a no_arguments) n) (erased_seen e es row is is_es)
+
+    pub parts_done : (r : Result ℕ Halt) → Does erased_parts first mid r → GivesMore this_argument first mid there there r
+    parts_done (Ok x) p =
+        subst (λ w. GivesMore w first mid there there (Ok x)) (sym erased_is)
+        ([], sym (append-nil there), goes_on nothing itself (λ xs. xs) (λ xs. x) erased_parts no_value first mid mid x (Ok []) p (sym (append-nil mid), refl, refl))
+    parts_done (Err h) p = subst (λ w. GivesMore w first mid there there (Err h)) (sym erased_is) (fails_first nothing itself (λ xs. xs) (λ xs. 0) erased_parts no_value first mid mid h p)
+
 -- ---- trees that are what they are seen as
 
 pub of_tree : (e e' : TypedExpression) (n : ℕ) (first last : List CommandTree) (z : Result Given Halt) → e ≡ e' → Gives (lowered_expression (typed_expression e') n) first last z → Gives (lowered_expression (typed_expression e) n) first last z
@@ -266,12 +313,12 @@ of_tree e e' n first last z is q = subst (λ e. Gives (lowered_expression (typed
 abbrev pub IsPlain : Expression → Type 0
 IsPlain (local i site) = ⊥
 IsPlain (cell p field block site) = ⊥
-IsPlain (call proc arguments result site) = ⊥
+IsPlain (call proc es type site) = ⊥
 IsPlain e = ⊤
 
 pub plain_seen : (e : TypedExpression) → ((i : ℕ) (site : Site) → e ≡ E.Local i site → ⊥) →
     ((p : Box TypedExpression Global) (row : Vec CellLink Global) (field : FieldId) (block : TypeId) (site : Site) → e ≡ E.Cell p row field block site → ⊥) →
-    ((proc : ProcId) (row : Vec TypedExpression Global) (type : ValueType) (site : Site) → e ≡ E.Call proc row type site → ⊥) → IsPlain (typed_expression e)
+    ((proc : ProcId) (row : Vec Argument Global) (type : ValueType) (site : Site) → e ≡ E.Call proc row type site → ⊥) → IsPlain (typed_expression e)
 plain_seen e no_local no_cell no_call = by (out-TypedExpression e) (roll-out-TypedExpression e)
   where
     same : (e' : TypedExpression) → e ≡ e' → IsPlain (typed_expression e') → IsPlain (typed_expression e)
@@ -300,7 +347,7 @@ passed_plain (truth c) h n = refl
 passed_plain (cell p field block site) h n = absurd h
 passed_plain (allocate block site) h n = refl
 passed_plain (get_char site) h n = refl
-passed_plain (call proc arguments result site) h n = absurd h
+passed_plain (call proc es type site) h n = absurd h
 passed_plain (stop number site parts) h n = refl
 
 pub passed_plain_fails : (t : Expression) → IsPlain t → (n : ℕ) (first mid : List CommandTree) (h : Halt) (z : Result ℕ Halt) → IsErr z h → Gives (lowered_expression t n) first mid (Err h) → Does (lowered_passed (an_expression t no_expressions) n) first mid z

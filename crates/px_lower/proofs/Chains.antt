@@ -1,4 +1,5 @@
 -- What commands that were put one after another gave.
+use Rattle.std.specs.Prelude.{⊤}
 use Rattle.std.proofs.Common.{◌≡◌, ◌∙◌, ℕ, suc, ◌<◌, ◌≤◌, ◌+◌, List, [], ◌∷◌, ◌++◌, length, drop, get_or, map, Option, None, Some, Result, Ok, Err, refl, sym, ap, subst, append_assoc, append-nil}
 use Rattle.px_core.specs.declared.command.Operand.{Operand}
 use Rattle.px_core.specs.declared.command.Operand.TheVariants.{Slot}
@@ -8,7 +9,7 @@ use Rattle.px_base.specs.declared.trace.Site.{Site}
 use Rattle.px_syntax.specs.declared.typed_expression.Arithmetic.{Arithmetic}
 use Rattle.px_syntax.specs.declared.typed_expression.CellLink.{CellLink}
 use Rattle.px_syntax.specs.declared.typed_expression.Relation.{Relation}
-use Rattle.px_syntax.specs.TypedTree.{Expression, constant, null, local, negated, arithmetic, truth, cell, allocate, get_char, call, stop, Expressions, no_expressions, an_expression, Condition, compare, both, either}
+use Rattle.px_syntax.specs.TypedTree.{Expression, constant, null, local, negated, arithmetic, truth, cell, allocate, get_char, call, stop, Expressions, no_expressions, an_expression, Arguments, Argument, no_arguments, an_argument, passed, erased, Condition, compare, both, either}
 use Rattle.std.proofs.lemmas.List.{at_drop_more, at_drop_all}
 use Rattle.px_syntax.specs.declared.typed_expression.ArithmeticLink.{ArithmeticLink}
 use Rattle.px_syntax.specs.declared.typed_expression.RelationLink.{RelationLink}
@@ -18,7 +19,7 @@ use Rattle.px_lower.specs.declared.put.Given.{Given}
 use Rattle.px_lower.specs.declared.put.Decided.{Decided}
 use Rattle.px_lower.specs.declared.put.Halt.{Halt}
 use Rattle.px_lower.specs.declared.put.Halt.TheVariants.{Stopped, NoMemory}
-use Rattle.px_lower.specs.Lowering.{Lowered, made_of, and_then, ready, doing, giving, deciding, loaded, reached, copied, and_rest, or_rest, lowered_expression, lowered_expressions, lowered_passed, lowered_condition, comparison, applied, operation, result_slot}
+use Rattle.px_lower.specs.Lowering.{Lowered, made_of, before as behind, and_then, ready, doing, giving, deciding, loaded, reached, copied, and_rest, or_rest, lowered_expression, lowered_arguments, lowered_passed, lowered_condition, comparison, applied, operation, result_slot}
 use Rattle.px_lower.specs.Chains.{Puts, Gives, Decides}
 use Rattle.px_lower.proofs.Sequences.{then_assoc}
 
@@ -160,7 +161,7 @@ pub passed_one : (e : Expression) (rest : Expressions) (n : ℕ) → lowered_pas
 passed_one (local i site) rest n = refl
 passed_one (cell p field block site) rest n = sym (then_assoc (lowered_expression p n) (λ x n. and_then (reached x field block site n) (λ _ n. lowered_passed no_expressions n)) (λ _ n. lowered_passed rest n))
 passed_one (call proc arguments result site) rest n =
-    sym (then_assoc (lowered_expressions arguments n) (λ xs n. and_then (doing (command.call None proc xs site) n) (λ _ n. lowered_passed no_expressions n)) (λ _ n. lowered_passed rest n))
+    sym (then_assoc (lowered_arguments arguments n) (λ xs n. and_then (doing (command.call None proc xs site) n) (λ _ n. lowered_passed no_expressions n)) (λ _ n. lowered_passed rest n))
 passed_one (constant z) rest n = sym (then_assoc (lowered_expression (constant z) n) (λ _ n. lowered_passed no_expressions n) (λ _ n. lowered_passed rest n))
 passed_one null rest n = sym (then_assoc (lowered_expression null n) (λ _ n. lowered_passed no_expressions n) (λ _ n. lowered_passed rest n))
 passed_one (negated e) rest n = sym (then_assoc (lowered_expression (negated e) n) (λ _ n. lowered_passed no_expressions n) (λ _ n. lowered_passed rest n))
@@ -273,3 +274,30 @@ all_fails t (c ∷ cs) n before out h p = all_fails (both t c) cs n before out h
 pub any_fails : (t : Condition) (cs : List Condition) (n : ℕ) (before out : List CommandTree) (h : Halt) → Decides (lowered_condition t n) before out (Err h) → Decides (lowered_condition (any_of t cs) n) before out (Err h)
 any_fails t [] n before out h p = p
 any_fails t (c ∷ cs) n before out h p = any_fails (either t c) cs n before out h (or_left_fails t c n before out h p)
+
+-- ---- arguments
+
+-- none stands before
+pub no_argument : (w : Lowered (List Operand)) → and_then w (λ xs n. ready xs n) ≡ w
+no_argument w = by w.value
+  where
+    by : (o : Option (List Operand)) → made_of w.commands w.next o (λ xs n. ready xs n) ≡ (let v : Lowered (List Operand) = record { commands = w.commands; value = o; next = w.next } in v)
+    by None = refl
+    by (Some xs) = ap (λ cs. let v : Lowered (List Operand) = record { commands = cs; value = Some xs; next = w.next } in v) (append-nil w.commands)
+
+-- what follows parts, with nothing before its values
+after_parts : (x : Lowered ⊤) (f : ℕ → Lowered (List Operand)) → and_then x (λ _ n. f n) ≡ and_then x (λ _ n. and_then (f n) (λ ys n. ready ys n))
+after_parts x f = by x.value
+  where
+    by : (o : Option ⊤) → made_of x.commands x.next o (λ _ n. f n) ≡ made_of x.commands x.next o (λ _ n. and_then (f n) (λ ys n. ready ys n))
+    by None = refl
+    by (Some u) = ap (λ w. behind x.commands w) (sym (no_argument (f x.next)))
+
+-- the first, and then the rest
+pub argument_one : (a : Argument) (rest : Arguments) (n : ℕ) →
+    lowered_arguments (an_argument a rest) n ≡ and_then (lowered_arguments (an_argument a no_arguments) n) (λ xs n. and_then (lowered_arguments rest n) (λ ys n. ready (xs ++ ys) n))
+argument_one (passed e) rest n =
+    sym (then_assoc (lowered_expression e n) (λ x n. and_then (lowered_arguments no_arguments n) (λ xs n. ready (x ∷ xs) n)) (λ xs n. and_then (lowered_arguments rest n) (λ ys n. ready (xs ++ ys) n)))
+argument_one (erased parts) rest n =
+    after_parts (lowered_passed parts n) (λ n. lowered_arguments rest n)
+    ∙ sym (then_assoc (lowered_passed parts n) (λ _ n. ready [] n) (λ xs n. and_then (lowered_arguments rest n) (λ ys n. ready (xs ++ ys) n)))

@@ -12,21 +12,22 @@ use Rattle.px_syntax.specs.declared.typed_expression.Relation.{Relation}
 use Rattle.px_syntax.specs.declared.typed_expression.Relation.TheVariants as relation
 use Rattle.px_syntax.specs.declared.typed_expression.RelationLink.{RelationLink}
 use Rattle.px_syntax.specs.declared.typed_expression.TypedExpression.{TypedExpression}
+use Rattle.px_syntax.specs.declared.typed_expression.Argument.{Argument}
 use Rattle.px_syntax.specs.declared.typed_expression.Condition.{Condition}
 use Rattle.px_syntax.specs.declared.typed_expression.Condition.TheVariants as C
-use Rattle.px_syntax.specs.TypedTree.{Expression, no_expressions, an_expression, Condition as Test, expressions_of, compare, word, pointer, both, either, opposite}
-use Rattle.px_syntax.specs.TypedViews.{typed_expression, typed_condition, relation_link, compared, all_of, any_of}
+use Rattle.px_syntax.specs.TypedTree.{Expression, no_expressions, an_expression, Condition as Test, expressions_of, arguments_of, compare, word, pointer, both, either, opposite}
+use Rattle.px_syntax.specs.TypedViews.{typed_expression, typed_argument, typed_condition, relation_link, compared, all_of, any_of}
 use Rattle.px_meaning.proofs.TreesSeen.{compare_seen, both_seen, either_seen}
 use Rattle.px_lower.specs.declared.put.Given.{Given}
 use Rattle.px_lower.specs.declared.put.Decided.{Decided}
 use Rattle.px_lower.specs.declared.put.Halt.{Halt}
 use Rattle.px_lower.specs.declared.put.Halt.TheVariants.{Stopped, NoMemory}
 use Rattle.px_lower.specs.declared.commands.Operands.{Operands}
-use Rattle.px_lower.specs.Lowering.{Lowered, made_of, and_then, ready, doing, deciding, copied, copy, and_rest, or_rest, lowered_expression, lowered_expressions, lowered_passed, lowered_condition, comparison}
-use Rattle.px_lower.specs.Chains.{Gives, GivesAll, Decides, Does, Ends}
+use Rattle.px_lower.specs.Lowering.{Lowered, made_of, and_then, ready, doing, deciding, copied, copy, and_rest, or_rest, lowered_expression, lowered_arguments, lowered_passed, lowered_condition, comparison}
+use Rattle.px_lower.specs.Chains.{Gives, GivesAll, GivesMore, Decides, Does, Ends}
 use Rattle.px_lower.proofs.Sequences.{then_assoc}
-use Rattle.px_lower.proofs.Chains.{fails_first, goes_on, next_one, compare_left_fails, compare_right_fails, compares, compared_fails, and_left_fails, or_left_fails, and_decides, or_decides, all_fails, any_fails, passed_one}
-use Rattle.px_lower.proofs.Arms.{IsErr, handed_on, operand, next, slot, after, operands, behind, nothing, itself, ends_with_value, goes_on_with_value, ends_with_outcome, goes_on_with_outcome}
+use Rattle.px_lower.proofs.Chains.{fails_first, goes_on, next_one, compare_left_fails, compare_right_fails, compares, compared_fails, and_left_fails, or_left_fails, and_decides, or_decides, all_fails, any_fails, passed_one, no_argument, argument_one}
+use Rattle.px_lower.proofs.Arms.{IsErr, handed_on, operand, next, slot, after, operands, behind, nothing, itself, ends_with_value, goes_on_with_value, ends_with_outcome, goes_on_with_outcome, this_argument}
 
 -- ---- conditions
 
@@ -221,52 +222,42 @@ passed_end es i le n out = subst (λ w. Does w out out (Ok n)) (sym (at_drop_all
 
 -- ---- arguments, one after another
 
-abbrev pub all_arguments : List TypedExpression → ℕ → Lowered (List Operand)
-all_arguments es n = lowered_expressions (expressions_of (map typed_expression es)) n
+abbrev pub all_arguments : List Argument → ℕ → Lowered (List Operand)
+all_arguments es n = lowered_arguments (arguments_of (map typed_argument es)) n
 
 -- those that are left, behind those that are there
-abbrev pub arguments_behind : List Operand → List TypedExpression → ℕ → Lowered (List Operand)
+abbrev pub arguments_behind : List Operand → List Argument → ℕ → Lowered (List Operand)
 arguments_behind there es n = and_then (all_arguments es n) (λ xs n. ready (there ++ xs) n)
 
--- one more of them
-one_argument : (there : List Operand) (x : Operand) (w : Lowered (List Operand)) → and_then w (λ xs n. ready ((there ++ x ∷ []) ++ xs) n) ≡ and_then (and_then w (λ xs n. ready (x ∷ xs) n)) (λ xs n. ready (there ++ xs) n)
-one_argument there x w = by w.value
+-- more of them are there
+more_arguments : (there xs : List Operand) (w : Lowered (List Operand)) → and_then w (λ ys n. ready ((there ++ xs) ++ ys) n) ≡ and_then (and_then w (λ ys n. ready (xs ++ ys) n)) (λ zs n. ready (there ++ zs) n)
+more_arguments there xs w = by w.value
   where
-    by : (o : Option (List Operand)) → made_of w.commands w.next o (λ xs n. ready ((there ++ x ∷ []) ++ xs) n) ≡ and_then (made_of w.commands w.next o (λ xs n. ready (x ∷ xs) n)) (λ xs n. ready (there ++ xs) n)
+    by : (o : Option (List Operand)) → made_of w.commands w.next o (λ ys n. ready ((there ++ xs) ++ ys) n) ≡ and_then (made_of w.commands w.next o (λ ys n. ready (xs ++ ys) n)) (λ zs n. ready (there ++ zs) n)
     by None = refl
-    by (Some xs) = ap₂ (λ cs ys. let v : Lowered (List Operand) = record { commands = cs; value = Some ys; next = w.next } in v) (sym (append-nil (w.commands ++ []))) (append_assoc there (x ∷ []) xs)
+    by (Some ys) = ap₂ (λ cs zs. let v : Lowered (List Operand) = record { commands = cs; value = Some zs; next = w.next } in v) (sym (append-nil (w.commands ++ []))) (append_assoc there xs ys)
 
--- none is there
-no_argument : (w : Lowered (List Operand)) → and_then w (λ xs n. ready xs n) ≡ w
-no_argument w = by w.value
-  where
-    by : (o : Option (List Operand)) → made_of w.commands w.next o (λ xs n. ready xs n) ≡ (let v : Lowered (List Operand) = record { commands = w.commands; value = o; next = w.next } in v)
-    by None = refl
-    by (Some xs) = ap (λ cs. let v : Lowered (List Operand) = record { commands = cs; value = Some xs; next = w.next } in v) (append-nil w.commands)
-
-pub arguments_begin : (there : List Operand) (es : List TypedExpression) (n : ℕ) (first last : List CommandTree) (r : Result Operands Halt) → there ≡ [] → GivesAll (arguments_behind there es n) first last r → GivesAll (all_arguments es n) first last r
+pub arguments_begin : (there : List Operand) (es : List Argument) (n : ℕ) (first last : List CommandTree) (r : Result Operands Halt) → there ≡ [] → GivesAll (arguments_behind there es n) first last r → GivesAll (all_arguments es n) first last r
 arguments_begin there es n first last r is q = subst (λ w. GivesAll w first last r) (no_argument (all_arguments es n)) (subst (λ xs. GivesAll (arguments_behind xs es n) first last r) is q)
 
-module _ (es : List TypedExpression) (i : ℕ) (e : TypedExpression) (lt : i < length es) (is : e ≡ get_or es i e) (there : List Operand) (n : ℕ) (first mid : List CommandTree) where
-  abbrev this_argument : Lowered Operand
-  this_argument = lowered_expression (typed_expression e) n
+module _ (es : List Argument) (i : ℕ) (e : Argument) (lt : i < length es) (is : e ≡ get_or es i e) (there values : List Operand) (n : ℕ) (first mid : List CommandTree) where
+  abbrev with_rest : List Operand → ℕ → Lowered (List Operand)
+  with_rest xs n = and_then (and_then (all_arguments (drop (i + 1) es) n) (λ ys n. ready (xs ++ ys) n)) (λ zs n. ready (there ++ zs) n)
 
-  abbrev with_rest : Operand → ℕ → Lowered (List Operand)
-  with_rest x n = and_then (and_then (all_arguments (drop (i + 1) es) n) (λ xs n. ready (x ∷ xs) n)) (λ xs n. ready (there ++ xs) n)
-
-  arguments_from : arguments_behind there (drop i es) n ≡ and_then this_argument with_rest
+  arguments_from : arguments_behind there (drop i es) n ≡ and_then (this_argument e n first) with_rest
   arguments_from =
       next_one (λ ls. arguments_behind there ls n) es i e lt is
-      ∙ then_assoc this_argument (λ x n. and_then (all_arguments (drop (i + 1) es) n) (λ xs n. ready (x ∷ xs) n)) (λ xs n. ready (there ++ xs) n)
+      ∙ ap (λ w. and_then w (λ zs n. ready (there ++ zs) n)) (argument_one (typed_argument e) (arguments_of (map typed_argument (drop (i + 1) es))) n)
+      ∙ then_assoc (this_argument e n first) (λ xs n. and_then (all_arguments (drop (i + 1) es) n) (λ ys n. ready (xs ++ ys) n)) (λ zs n. ready (there ++ zs) n)
 
-  pub argument_more : (x : Given) (last : List CommandTree) (r : Result Operands Halt) → Gives this_argument first mid (Ok x) → GivesAll (arguments_behind (there ++ x.operand ∷ []) (drop (i + 1) es) x.next) mid last r → GivesAll (arguments_behind there (drop i es) n) first last r
-  argument_more x last r p q =
-      subst (λ w. GivesAll w first last r) (sym arguments_from) (goes_on operand next operands behind this_argument with_rest first mid last x r p
-      (subst (λ w. GivesAll w mid last r) (one_argument there x.operand (all_arguments (drop (i + 1) es) x.next)) q))
+  pub argument_more : (x : ℕ) (last : List CommandTree) (r : Result Operands Halt) → GivesMore (this_argument e n first) first mid there values (Ok x) → GivesAll (arguments_behind values (drop (i + 1) es) x) mid last r → GivesAll (arguments_behind there (drop i es) n) first last r
+  argument_more x last r (more, are, p) q =
+      subst (λ w. GivesAll w first last r) (sym arguments_from) (goes_on (λ xs. xs) (λ xs. x) operands behind (this_argument e n first) with_rest first mid last more r p
+      (subst (λ w. GivesAll w mid last r) (more_arguments there more (all_arguments (drop (i + 1) es) x)) (subst (λ v. GivesAll (arguments_behind v (drop (i + 1) es) x) mid last r) are q)))
 
-  pub argument_fails : (h : Halt) → Gives this_argument first mid (Err h) → GivesAll (arguments_behind there (drop i es) n) first mid (Err h)
-  argument_fails h p = subst (λ w. GivesAll w first mid (Err h)) (sym arguments_from) (fails_first operand next operands behind this_argument with_rest first mid mid h p)
+  pub argument_fails : (h : Halt) → GivesMore (this_argument e n first) first mid there values (Err h) → GivesAll (arguments_behind there (drop i es) n) first mid (Err h)
+  argument_fails h p = subst (λ w. GivesAll w first mid (Err h)) (sym arguments_from) (fails_first (λ xs. xs) (λ xs. 0) operands behind (this_argument e n first) with_rest first mid mid h p)
 
-pub arguments_end : (es : List TypedExpression) (i : ℕ) → length es ≤ i → (there : List Operand) (n : ℕ) (out : List CommandTree) (z : Operands) → z.operands.items ≡ there → z.next ≡ n → GivesAll (arguments_behind there (drop i es) n) out out (Ok z)
+pub arguments_end : (es : List Argument) (i : ℕ) → length es ≤ i → (there : List Operand) (n : ℕ) (out : List CommandTree) (z : Operands) → z.operands.items ≡ there → z.next ≡ n → GivesAll (arguments_behind there (drop i es) n) out out (Ok z)
 arguments_end es i le there n out z o m =
     subst (λ w. GivesAll w out out (Ok z)) (sym (at_drop_all (λ ls. arguments_behind there ls n) es i le)) (sym (append-nil out), ap Some (append-nil there ∙ sym o), sym m)

@@ -14,7 +14,7 @@ use Rattle.px_syntax.specs.declared.typed_expression.Arithmetic.{Arithmetic}
 use Rattle.px_syntax.specs.declared.typed_expression.Arithmetic.TheVariants as arith
 use Rattle.px_syntax.specs.declared.typed_expression.Relation.{Relation}
 use Rattle.px_syntax.specs.declared.typed_expression.Relation.TheVariants as relation
-use Rattle.px_syntax.specs.TypedTree.{Expression, constant, null, local, negated, arithmetic, truth, cell, allocate, get_char, call, stop, Expressions, no_expressions, an_expression, Condition, compare, word, pointer, both, either, opposite, Place, local_place, cell_place, Statement, block, declare, assign, update, run_call, free, input, choose, loop, break, continue, return, evaluate, Statements, no_statements, a_statement}
+use Rattle.px_syntax.specs.TypedTree.{Expression, constant, null, local, negated, arithmetic, truth, cell, allocate, get_char, call, stop, Expressions, no_expressions, an_expression, Arguments, no_arguments, an_argument, passed, erased, Condition, compare, word, pointer, both, either, opposite, Place, local_place, cell_place, Statement, block, declare, assign, update, run_call, free, input, choose, loop, break, continue, return, evaluate, Statements, no_statements, a_statement}
 use Rattle.px_syntax.specs.ProgramTree.{ProcedureTree}
 use Rattle.px_meaning.specs.Values.{TypeId, ValueType, Int, Pointer}
 use Rattle.px_meaning.specs.CoreTypes.{SlotTypes, IsOperandOf, AreOperandsOf, IsOperationOf, IsTyped, AreTyped}
@@ -22,7 +22,7 @@ use Rattle.px_meaning.specs.TypedProgram.{TypedProgram}
 use Rattle.px_meaning.proofs.TypedSteps.{none_fits, one_fits}
 use Rattle.px_meaning.specs.TreeTypes.{LocalTypes, type_of_cell, AgreesWith, IsOf, AreOf, ArePassed, IsCondition, IsPlaceOf, IsConditionIf, IsDeclared, IsReturned, IsStep, IsStatement, AreStatements}
 use Rattle.px_meaning.proofs.TypedTrees.{defined_some}
-use Rattle.px_lower.specs.Lowering.{Lowered, and_then, doing, giving, copy, comparison, copied, loaded, reached, lowered_expression, lowered_expressions, lowered_passed, lowered_condition, lowered_declaration, lowered_assignment, lowered_update, lowered_head, lowered_return, lowered_statement, lowered_statements, applied, result_slot}
+use Rattle.px_lower.specs.Lowering.{Lowered, and_then, doing, giving, copy, comparison, copied, loaded, reached, lowered_expression, lowered_arguments, lowered_passed, lowered_condition, lowered_declaration, lowered_assignment, lowered_update, lowered_head, lowered_return, lowered_statement, lowered_statements, applied, result_slot}
 use Rattle.px_lower.specs.LoweredProgram.{lowered, lowered_program}
 use Rattle.px_lower.proofs.NewSlots.{NewSlot, holding, an_outcome, Kinds, past_then, past_grows, split, Said, Slotted, alone, stopped, slotted_then, slotted_before}
 
@@ -281,7 +281,7 @@ module _ (P : TypedProgram) (locals : LocalTypes) (result : Option ValueType) (m
           let s = kind_type (K n) (holding Int) is in
           (one place K N (command.input n site) refl (s, (room, kind_outcome (K n) (holding Int) is)), (s ∙ sym h, room)))
       expression_good given has t (call proc es r site) n h =
-          let x = lowered_expressions es n in
+          let x = lowered_arguments es n in
           then' given (AllOf h.1.0) (Of t) n x _ (each_good given has h.1.0 es n h.1.1) (λ xs.
           gives_new _ (Of t) x.next (holding r) _ (operand.Slot x.next) (λ K N g room is.
           let s = kind_type (K x.next) (holding r) is in (
@@ -293,16 +293,19 @@ module _ (P : TypedProgram) (locals : LocalTypes) (result : Option ValueType) (m
           then' given Any (Of t) n x _ (passed_good given has parts n h) (λ u.
           stopped (All place) (all_more place) (none place) _ (Of t) x.next _ (λ K N g. one place K N (command.stop number site) refl (tt, tt)))
 
-      each_good : (given : Kinds → ℕ → Type 0) → Has given → (ts : List ValueType) (es : Expressions) (n : ℕ) → AreOf P locals ts es → Good given n (lowered_expressions es n) (AllOf ts)
-      each_good given has [] no_expressions n h = takes_none given (AllOf []) n [] [] (λ K N g. (none place K N, (tt, tt)))
-      each_good given has (t ∷ ts) (an_expression e rest) n h =
+      each_good : (given : Kinds → ℕ → Type 0) → Has given → (ts : List ValueType) (es : Arguments) (n : ℕ) → AreOf P locals ts es → Good given n (lowered_arguments es n) (AllOf ts)
+      each_good given has [] no_arguments n h = takes_none given (AllOf []) n [] [] (λ K N g. (none place K N, (tt, tt)))
+      each_good given has (t ∷ ts) (an_argument (passed e) rest) n h =
           let x = lowered_expression e n in
-          let y = lowered_expressions rest x.next in
+          let y = lowered_arguments rest x.next in
           then' given (Of t) (AllOf (t ∷ ts)) n x _ (expression_good given has t e n h.0) (λ a.
           then' _ (AllOf ts) (AllOf (t ∷ ts)) x.next y _ (each_good _ (λ K N g. has K N g.0) ts rest x.next h.1) (λ xs.
           takes_none _ (AllOf (t ∷ ts)) y.next [] (a ∷ xs) (λ K N g. (none place K N, ((g.0.1.0, g.1.0), (g.0.1.1, g.1.1))))))
-      each_good given has [] (an_expression e rest) n h = absurd h
-      each_good given has (t ∷ ts) no_expressions n h = absurd h
+      each_good given has [] (an_argument (passed e) rest) n h = absurd h
+      each_good given has (t ∷ ts) no_arguments n h = absurd h
+      each_good given has ts (an_argument (erased parts) rest) n h =
+          let x = lowered_passed parts n in
+          then' given Any (AllOf ts) n x (λ _ n. lowered_arguments rest n) (passed_good given has parts n h.0) (λ u. each_good _ (λ K N g. has K N g.0) ts rest x.next h.1)
 
       passed_good : (given : Kinds → ℕ → Type 0) → Has given → (es : Expressions) (n : ℕ) → ArePassed P locals es → Good given n (lowered_passed es n) Any
       passed_good given has no_expressions n h = takes_none given Any n [] tt (λ K N g. (none place K N, tt))
@@ -315,7 +318,7 @@ module _ (P : TypedProgram) (locals : LocalTypes) (result : Option ValueType) (m
           (gives_new _ Any x.next (holding t) _ tt (λ K N g room is. (load_unset place K N x.next a field b t site room is h.0.1.1 g.1, tt)))
           (λ u. passed_good _ (λ K N g. has K N g.0.0) rest (suc x.next) h.1))
       passed_good given has (an_expression (call proc es r site) rest) n h =
-          let x = lowered_expressions es n in
+          let x = lowered_arguments es n in
           then' given (AllOf h.0.0) Any n x _ (each_good given has h.0.0 es n h.0.1) (λ xs.
           then' _ Any Any x.next (doing (command.call None proc xs site) x.next) (λ _ n. lowered_passed rest n)
           (takes_none _ Any x.next _ tt (λ K N g. (one place K N (command.call None proc xs site) refl (unused_call K (P.procedures proc.0) h.0.0 xs h.0.2 g.1.0, g.1.1), tt)))
@@ -469,7 +472,7 @@ module _ (P : TypedProgram) (locals : LocalTypes) (result : Option ValueType) (m
     statement_good inside place stands given has (assign to e) n h = assignment_good place given has h.0 to e n h.1 h.2
     statement_good inside place stands given has (update op to e) n h = update_good place given has op to e n h.0 h.1
     statement_good inside place stands given has (run_call proc es site) n h =
-        let x = lowered_expressions es n in
+        let x = lowered_arguments es n in
         then' place given (AllOf h.0) Any n x _ (each_good place given has h.0 es n h.1) (λ xs. takes_none place _ Any x.next _ tt (λ K N g.
         (one place K N (command.call None proc xs site) refl (unused_call K (P.procedures proc.0) h.0 xs h.2 g.1.0, g.1.1), tt)))
     statement_good inside place stands given has (free e b site) n h =
@@ -525,7 +528,7 @@ module _ (P : TypedProgram) (locals : LocalTypes) (result : Option ValueType) (m
     step_good given has (assign to e) n k inside h = assignment_good InStep given has h.0 to e n h.1 h.2
     step_good given has (update op to e) n k inside h = update_good InStep given has op to e n h.0 h.1
     step_good given has (run_call proc es site) n k inside h =
-        let x = lowered_expressions es n in
+        let x = lowered_arguments es n in
         then' InStep given (AllOf h.0) Any n x _ (each_good InStep given has h.0 es n h.1) (λ xs. takes_none InStep _ Any x.next _ tt (λ K N g.
         (one InStep K N (command.call None proc xs site) refl (unused_call K (P.procedures proc.0) h.0 xs h.2 g.1.0, g.1.1), tt)))
     step_good given has (free e b site) n k inside h =

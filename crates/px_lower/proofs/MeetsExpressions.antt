@@ -23,7 +23,7 @@ use Rattle.px_syntax.specs.declared.typed_expression.Arithmetic.{Arithmetic}
 use Rattle.px_syntax.specs.declared.typed_expression.Arithmetic.TheVariants.{Add, Subtract, Multiply, Divide, Remainder}
 use Rattle.px_syntax.specs.declared.typed_expression.Relation.{Relation}
 use Rattle.px_syntax.specs.declared.typed_expression.Relation.TheVariants as relation
-use Rattle.px_syntax.specs.TypedTree.{Expression, constant, null, local, negated, arithmetic, truth, cell, allocate, get_char, call, stop, Expressions, no_expressions, an_expression, Condition, compare, word, pointer, both, either, opposite}
+use Rattle.px_syntax.specs.TypedTree.{Expression, constant, null, local, negated, arithmetic, truth, cell, allocate, get_char, call, stop, Expressions, no_expressions, an_expression, Arguments, no_arguments, an_argument, passed, erased, Condition, compare, word, pointer, both, either, opposite}
 use Rattle.px_meaning.specs.Values.{TypeId, BlockType, Value, Word, Null, Block, Unwritten}
 use Rattle.px_meaning.specs.Heaps.{HeapMap, with_block}
 use Rattle.px_meaning.specs.Calls.{Halt, error, outside, Ending, Returned, Failed}
@@ -35,9 +35,9 @@ use Rattle.px_meaning.specs.Steps.{ProcedureCalls, marking, by_pointer, by_writt
 use Rattle.px_meaning.specs.CoreCalls.{Behind}
 use Rattle.px_meaning.specs.TreeExecution.{by_outcome, gives, errs, Outcomes, yes, no, fault, Verdicts, RelationHolds, RelationFails, Uses, Loads, Reaches, Returns, CallsProcedure, Branches, Evaluates, EvaluatesAll, PassesAll, Tests, Outcome, division, calculation, Calculates}
 use Rattle.px_meaning.proofs.Determined.{after-append}
-use Rattle.px_lower.specs.Lowering.{Lowered, made_of, and_then, doing, reached, lowered_expression, lowered_expressions, lowered_passed, lowered_condition, comparison, copy, operation, result_slot}
+use Rattle.px_lower.specs.Lowering.{Lowered, made_of, and_then, doing, reached, lowered_expression, lowered_arguments, lowered_passed, lowered_condition, comparison, copy, operation, result_slot}
 use Rattle.px_lower.specs.Lowering as lowering
-use Rattle.px_lower.specs.Scopes.{IsWithin, AreWithin, IsTestWithin}
+use Rattle.px_lower.specs.Scopes.{IsWithin, AreWithin, AreArgumentsWithin, IsTestWithin}
 use Rattle.px_lower.proofs.Ways.{Way, Meets, then', one_of, with', granted, on_such, on_written, on_pointer, on_new, on_input, on_call, ways, same, equal}
 use Rattle.px_core.proofs.Acts.{acts_append}
 use Rattle.px_core.specs.WellFormed.{IsOperandBelow}
@@ -390,13 +390,13 @@ module _ {E : Type 0} (w : Way) (seen : Event → E) (bound : Option ℕ) (types
       Meets w (M (acts (commands_of (lowered_condition c n).commands) k) slots heap so_far) (Tests seen types tcalls c locals so_far heap K)
 
   -- a value that isn't read, and the rest
-  passed : (e : Expression) (rest : Expressions) (n : ℕ) → m ≤ n → (and_then (lowered_expression e n) (λ _ n. lowered_passed rest n)).next ≤ N →
+  value_passed : (e : Expression) (rest : Expressions) (n : ℕ) → m ≤ n → (and_then (lowered_expression e n) (λ _ n. lowered_passed rest n)).next ≤ N →
       (locals : Locals) (slots : List Value) (so_far : List E) (heap : HeapMap) (err : List E → Halt → Site → HeapMap → Type 0) (on : List E → HeapMap → Type 0) (k : List Item) → Agrees N m locals slots →
       ((u : ⊤) → (and_then (lowered_expression e n) (λ _ n. lowered_passed rest n)).value ≡ Some u → (so_far : List E) (heap : HeapMap) (slots' : List Value) → Kept N n slots slots' → Meets w (M k slots' heap so_far) (on so_far heap)) →
       OnError err → Does e n → DoesPassed rest (lowered_expression e n).next →
       Meets w (M (acts (commands_of (and_then (lowered_expression e n) (λ _ n. lowered_passed rest n)).commands) k) slots heap so_far)
       (Evaluates seen types tcalls e locals so_far heap (by_outcome err (λ so_far v heap. PassesAll seen types tcalls rest locals so_far heap err on)))
-  passed e rest n le room locals slots so_far heap err on k agrees go fail first more =
+  value_passed e rest n le room locals slots so_far heap err on k agrees go fail first more =
       let x = lowered_expression e n in
       let gx : n ≤ x.next = grows e n in
       sequence x (λ _ n. lowered_passed rest n) k slots heap so_far (λ a. grows_passed rest x.next) room (λ k' room' next.
@@ -494,11 +494,11 @@ module _ {E : Type 0} (w : Way) (seen : Event → E) (bound : Option ℕ) (types
         (on_input w (λ z. M k (slice_set slots n (Word z)) heap (so_far ++ seen (reads site z) ∷ [])) (λ z. K (so_far ++ seen (reads site z) ∷ []) (gives (Word z)) heap)
         (λ z. there (so_far ++ seen (reads site z) ∷ []) (Word z) heap (slice_set slots n (Word z)) (kept_set N n slots slots n (Word z) kept (le_refl n)) (set_here N slots n (Word z) agrees.sized room) tt))
     of_expression (call proc arguments result site) n l le room locals slots so_far heap K k agrees on err =
-        let x = lowered_expressions arguments n in
+        let x = lowered_arguments arguments n in
         let gx : n ≤ x.next = grows_each arguments n in
         let to = operand.Slot x.next in
         sequence x _ k slots heap so_far (λ xs. one_more _) room (λ k' room' next.
-        of_expressions arguments n l le room' locals slots so_far heap _ _ k' agrees
+        of_arguments arguments n l le room' locals slots so_far heap _ _ k' agrees
         (λ xs is so_far' vs heap' slots' kept are written. next xs is slots' heap' so_far' _ (λ room'' value.
         called (Some x.next) proc xs site slots' vs so_far' heap' _ _ (Act (read x.next site) ∷ k) are written
         (λ so_far'' v heap''.
@@ -513,27 +513,37 @@ module _ {E : Type 0} (w : Way) (seen : Event → E) (bound : Option ℕ) (types
         then' w (machine (Act (command.stop number site)) k slots' heap' so_far') (err so_far' (outside number) site heap')))
         err)
 
-    pub of_expressions : (es : Expressions) (n : ℕ) → AreWithin m es → m ≤ n → (lowered_expressions es n).next ≤ N →
+    pub of_arguments : (es : Arguments) (n : ℕ) → AreArgumentsWithin m es → m ≤ n → (lowered_arguments es n).next ≤ N →
         (locals : Locals) (slots : List Value) (so_far : List E) (heap : HeapMap) (err : List E → Halt → Site → HeapMap → Type 0) (on : List E → List Value → HeapMap → Type 0) (k : List Item) → Agrees N m locals slots →
-        ((xs : List Operand) → (lowered_expressions es n).value ≡ Some xs → (so_far : List E) (vs : List Value) (heap : HeapMap) (slots' : List Value) → Kept N n slots slots' → map (operand_value slots') xs ≡ vs → WereWritten vs → Meets w (M k slots' heap so_far) (on so_far vs heap)) →
+        ((xs : List Operand) → (lowered_arguments es n).value ≡ Some xs → (so_far : List E) (vs : List Value) (heap : HeapMap) (slots' : List Value) → Kept N n slots slots' → map (operand_value slots') xs ≡ vs → WereWritten vs → Meets w (M k slots' heap so_far) (on so_far vs heap)) →
         OnError err →
-        Meets w (M (acts (commands_of (lowered_expressions es n).commands) k) slots heap so_far) (EvaluatesAll seen types tcalls es locals so_far heap err on)
-    of_expressions no_expressions n l le room locals slots so_far heap err on k agrees go fail = go [] refl so_far [] heap slots (kept_same N n slots agrees.sized) refl tt
-    of_expressions (an_expression e rest) n l le room locals slots so_far heap err on k agrees go fail =
+        Meets w (M (acts (commands_of (lowered_arguments es n).commands) k) slots heap so_far) (EvaluatesAll seen types tcalls es locals so_far heap err on)
+    of_arguments no_arguments n l le room locals slots so_far heap err on k agrees go fail = go [] refl so_far [] heap slots (kept_same N n slots agrees.sized) refl tt
+    of_arguments (an_argument (passed e) rest) n l le room locals slots so_far heap err on k agrees go fail =
         let x = lowered_expression e n in
-        let y = lowered_expressions rest x.next in
+        let y = lowered_arguments rest x.next in
         let gx : n ≤ x.next = grows e n in
         let gy : x.next ≤ y.next = grows_each rest x.next in
         sequence x _ k slots heap so_far (λ a. grown y _ x.next gy (λ xs. le_refl _)) room (λ k1 room1 next1.
         of_expression e n l.0 le room1 locals slots so_far heap _ k1 agrees
         (λ a is so_far' u heap' slots' kept same first. next1 a is slots' heap' so_far' _ (λ room2 value.
         sequence y _ k slots' heap' so_far' (λ xs. le_refl _) room2 (λ k2 room3 next2.
-        of_expressions rest x.next l.1 (le_trans le gx) room3 locals slots' so_far' heap' err _ k2 (agrees_kept N m n locals slots slots' le agrees kept)
+        of_arguments rest x.next l.1 (le_trans le gx) room3 locals slots' so_far' heap' err _ k2 (agrees_kept N m n locals slots slots' le agrees kept)
         (λ xs is' so_far'' vs heap'' slots'' kept' are written. next2 xs is' slots'' heap'' so_far'' _ (λ room4 value'.
         go (a ∷ xs) (value (a ∷ xs) (value' (a ∷ xs) refl)) so_far'' (u ∷ vs) heap'' slots'' (kept_then N n x.next slots slots' slots'' gx kept kept')
         (ap₂ (λ p q. p ∷ q) (operand_kept N x.next slots' slots'' a (operand_below m n e l.0 le a is) kept' ∙ same) are)
         (first, written)))
         fail)))
+        fail)
+    of_arguments (an_argument (erased parts) rest) n l le room locals slots so_far heap err on k agrees go fail =
+        let x = lowered_passed parts n in
+        let gx : n ≤ x.next = grows_passed parts n in
+        sequence x (λ _ n. lowered_arguments rest n) k slots heap so_far (λ u. grows_each rest x.next) room (λ k' room' next.
+        of_passed parts n l.0 le room' locals slots so_far heap err _ k' agrees
+        (λ u is so_far' heap' slots' kept. next u is slots' heap' so_far' _ (λ room'' value.
+        of_arguments rest x.next l.1 (le_trans le gx) room'' locals slots' so_far' heap' err on k (agrees_kept N m n locals slots slots' le agrees kept)
+        (λ xs is' so_far'' vs heap'' slots'' kept' are written. go xs (value xs is') so_far'' vs heap'' slots'' (kept_then N n x.next slots slots' slots'' gx kept kept') are written)
+        fail))
         fail)
 
     -- values that aren't read
@@ -559,10 +569,10 @@ module _ {E : Type 0} (w : Way) (seen : Event → E) (bound : Option ℕ) (types
         fail))
         fail)
     of_passed (an_expression (call proc arguments result site) rest) n l le room locals slots so_far heap err on k agrees go fail =
-        let x = lowered_expressions arguments n in
+        let x = lowered_arguments arguments n in
         let gx : n ≤ x.next = grows_each arguments n in
         sequence x _ k slots heap so_far (λ xs. grows_passed rest x.next) room (λ k' room' next.
-        of_expressions arguments n l.0 le room' locals slots so_far heap err _ k' agrees
+        of_arguments arguments n l.0 le room' locals slots so_far heap err _ k' agrees
         (λ xs is so_far' vs heap' slots' kept are written. next xs is slots' heap' so_far' _ (λ room'' value.
         called None proc xs site slots' vs so_far' heap' err _ (acts (commands_of (lowered_passed rest x.next).commands) k) are written
         (λ so_far'' v heap''.
@@ -572,21 +582,21 @@ module _ {E : Type 0} (w : Way) (seen : Event → E) (bound : Option ℕ) (types
         fail))
         fail)
     of_passed (an_expression (constant z) rest) n l le room locals slots so_far heap err on k agrees go fail =
-        passed (constant z) rest n le room locals slots so_far heap err on k agrees go fail (of_expression (constant z) n l.0 le) (of_passed rest (lowered_expression (constant z) n).next l.1)
+        value_passed (constant z) rest n le room locals slots so_far heap err on k agrees go fail (of_expression (constant z) n l.0 le) (of_passed rest (lowered_expression (constant z) n).next l.1)
     of_passed (an_expression null rest) n l le room locals slots so_far heap err on k agrees go fail =
-        passed null rest n le room locals slots so_far heap err on k agrees go fail (of_expression null n l.0 le) (of_passed rest (lowered_expression null n).next l.1)
+        value_passed null rest n le room locals slots so_far heap err on k agrees go fail (of_expression null n l.0 le) (of_passed rest (lowered_expression null n).next l.1)
     of_passed (an_expression (negated e) rest) n l le room locals slots so_far heap err on k agrees go fail =
-        passed (negated e) rest n le room locals slots so_far heap err on k agrees go fail (of_expression (negated e) n l.0 le) (of_passed rest (lowered_expression (negated e) n).next l.1)
+        value_passed (negated e) rest n le room locals slots so_far heap err on k agrees go fail (of_expression (negated e) n l.0 le) (of_passed rest (lowered_expression (negated e) n).next l.1)
     of_passed (an_expression (arithmetic op a b) rest) n l le room locals slots so_far heap err on k agrees go fail =
-        passed (arithmetic op a b) rest n le room locals slots so_far heap err on k agrees go fail (of_expression (arithmetic op a b) n l.0 le) (of_passed rest (lowered_expression (arithmetic op a b) n).next l.1)
+        value_passed (arithmetic op a b) rest n le room locals slots so_far heap err on k agrees go fail (of_expression (arithmetic op a b) n l.0 le) (of_passed rest (lowered_expression (arithmetic op a b) n).next l.1)
     of_passed (an_expression (truth c) rest) n l le room locals slots so_far heap err on k agrees go fail =
-        passed (truth c) rest n le room locals slots so_far heap err on k agrees go fail (of_expression (truth c) n l.0 le) (of_passed rest (lowered_expression (truth c) n).next l.1)
+        value_passed (truth c) rest n le room locals slots so_far heap err on k agrees go fail (of_expression (truth c) n l.0 le) (of_passed rest (lowered_expression (truth c) n).next l.1)
     of_passed (an_expression (allocate block site) rest) n l le room locals slots so_far heap err on k agrees go fail =
-        passed (allocate block site) rest n le room locals slots so_far heap err on k agrees go fail (of_expression (allocate block site) n l.0 le) (of_passed rest (lowered_expression (allocate block site) n).next l.1)
+        value_passed (allocate block site) rest n le room locals slots so_far heap err on k agrees go fail (of_expression (allocate block site) n l.0 le) (of_passed rest (lowered_expression (allocate block site) n).next l.1)
     of_passed (an_expression (get_char site) rest) n l le room locals slots so_far heap err on k agrees go fail =
-        passed (get_char site) rest n le room locals slots so_far heap err on k agrees go fail (of_expression (get_char site) n l.0 le) (of_passed rest (lowered_expression (get_char site) n).next l.1)
+        value_passed (get_char site) rest n le room locals slots so_far heap err on k agrees go fail (of_expression (get_char site) n l.0 le) (of_passed rest (lowered_expression (get_char site) n).next l.1)
     of_passed (an_expression (stop number site parts) rest) n l le room locals slots so_far heap err on k agrees go fail =
-        passed (stop number site parts) rest n le room locals slots so_far heap err on k agrees go fail (of_expression (stop number site parts) n l.0 le) (of_passed rest (lowered_expression (stop number site parts) n).next l.1)
+        value_passed (stop number site parts) rest n le room locals slots so_far heap err on k agrees go fail (of_expression (stop number site parts) n l.0 le) (of_passed rest (lowered_expression (stop number site parts) n).next l.1)
 
     pub of_condition : (c : Condition) (n : ℕ) → IsTestWithin m c → m ≤ n → (lowered_condition c n).next ≤ N →
         (locals : Locals) (slots : List Value) (so_far : List E) (heap : HeapMap) (K : Verdicts E) (k : List Item) → Agrees N m locals slots →

@@ -22,7 +22,7 @@ use Rattle.px_core.specs.Control.{Item, Act, AfterHead, AfterBody, AfterStep, Tu
 use Rattle.px_meaning.specs.Steps.{ProcedureCalls, marking, by_pointer, live_block, freed_block, Allows, step}
 use Rattle.px_meaning.specs.CoreCalls.{Behind}
 use Rattle.px_meaning.specs.TreeExecution.{by_outcome, yes, no, fault, Verdicts, Exit, falls, breaks, continues, returns, fails, Exits, with_fall, behind_body, Stores, Frees, failing, Takes, Declares, Assigns, Updates, TestsIf, Loops, GivesBack, Executes, ExecutesAll, Calculates}
-use Rattle.px_lower.specs.Lowering.{Lowered, and_then, doing, giving, lowered_expression, lowered_expressions, lowered_condition, lowered_declaration, lowered_assignment, lowered_update, lowered_head, lowered_return, lowered_statement, lowered_statements, copy, applied, operation, result_slot}
+use Rattle.px_lower.specs.Lowering.{Lowered, and_then, doing, giving, lowered_expression, lowered_arguments, lowered_condition, lowered_declaration, lowered_assignment, lowered_update, lowered_head, lowered_return, lowered_statement, lowered_statements, copy, applied, operation, result_slot}
 use Rattle.px_lower.specs.Scopes.{IsWithin, IsWithinIf, IsTestWithinIf, IsPlaceWithin, IsStatementWithin, AreStatementsWithin}
 use Rattle.px_lower.proofs.Ways.{Way, down, up, Meets, then', with', on_some, on_pointer, on_input}
 use Rattle.px_core.proofs.Acts.{break_acts, continue_acts}
@@ -376,11 +376,11 @@ module _ {E : Type 0} (w : Way) (seen : Event → E) (bound : Option ℕ) (types
     of_statement leaves (tree.assign place e) n l le room j enough locals slots so_far heap K k agrees exit = of_assignment leaves place e n l.0 l.1 le room j locals slots so_far heap K k agrees exit
     of_statement leaves (update op place e) n l le room j enough locals slots so_far heap K k agrees exit = of_update leaves op place e n l.0 l.1 le room j locals slots so_far heap K k agrees exit
     of_statement leaves (run_call proc arguments site) n l le room j enough locals slots so_far heap K k agrees exit =
-        let x = lowered_expressions arguments n in
+        let x = lowered_arguments arguments n in
         let whole = lowered_statement (run_call proc arguments site) n in
         let err = λ (so_far' : List E) (kind : Halt) (at : Site) (heap' : HeapMap). exit so_far' (fails kind at) locals heap' slots tt agrees in
         sequence j x _ k slots heap so_far (λ xs. le_refl _) room (λ k' room' next.
-        expression.of_expressions w seen bound types ccalls tcalls ties t ending end (M j) (machine j) N m arguments n l le room' locals slots so_far heap (failing seen types tcalls locals K) _ k' agrees
+        expression.of_arguments w seen bound types ccalls tcalls ties t ending end (M j) (machine j) N m arguments n l le room' locals slots so_far heap (failing seen types tcalls locals K) _ k' agrees
         (λ xs there so_far1 vs heap1 slots1 kept1 are written. next xs there slots1 heap1 so_far1 _ (λ room'' value.
         expression.called w seen bound types ccalls tcalls ties t ending end (M j) (machine j) N m None proc xs site slots1 vs so_far1 heap1 (failing seen types tcalls locals K) _ k are written
         (λ so_far2 v heap2. exit so_far2 falls locals heap2 slots1 (value tt refl) (agrees_kept N m n locals slots slots1 le agrees kept1))

@@ -2,12 +2,12 @@
 use Rattle.std.proofs.Common.{◌≡◌, ℕ, suc, ◌<◌, ◌≤◌, Option, None, Some, subst, arith, le_refl, le_trans}
 use Rattle.std.proofs.lemmas.Option.{same_Some}
 use Rattle.px_syntax.specs.declared.typed_expression.Arithmetic.{Arithmetic}
-use Rattle.px_syntax.specs.TypedTree.{Expression, constant, null, local, negated, arithmetic, truth, cell, allocate, get_char, call, stop, Expressions, no_expressions, an_expression, Condition, compare, word, pointer, both, either, opposite, Place, local_place, cell_place, Statement, block, declare, assign, update, run_call, free, input, choose, loop, break, continue, return, evaluate, Statements, no_statements, a_statement}
+use Rattle.px_syntax.specs.TypedTree.{Expression, constant, null, local, negated, arithmetic, truth, cell, allocate, get_char, call, stop, Expressions, no_expressions, an_expression, Arguments, no_arguments, an_argument, passed, erased, Condition, compare, word, pointer, both, either, opposite, Place, local_place, cell_place, Statement, block, declare, assign, update, run_call, free, input, choose, loop, break, continue, return, evaluate, Statements, no_statements, a_statement}
 use Rattle.px_syntax.specs.declared.typed_expression.Arithmetic.TheVariants.{Add, Subtract, Multiply, Divide, Remainder}
 use Rattle.px_core.specs.declared.command.Operand.{Operand}
 use Rattle.px_core.specs.declared.command.Operand.TheVariants.{Slot, Word, Null}
 use Rattle.px_core.specs.WellFormed.{IsOperandBelow}
-use Rattle.px_lower.specs.Lowering.{lowered_expression, lowered_expressions, lowered_passed, lowered_condition, copied, lowered_declaration, lowered_assignment, lowered_update, lowered_head, lowered_return, lowered_statement, lowered_statements, result_slot}
+use Rattle.px_lower.specs.Lowering.{lowered_expression, lowered_arguments, lowered_passed, lowered_condition, copied, lowered_declaration, lowered_assignment, lowered_update, lowered_head, lowered_return, lowered_statement, lowered_statements, result_slot}
 use Rattle.px_lower.specs.Scopes.{IsWithin}
 use Rattle.px_lower.proofs.Sequences.{grown, valued}
 
@@ -40,15 +40,16 @@ mutual
   grows (cell p field t site) n = grown (lowered_expression p n) _ n (grows p n) (λ x. one_more _)
   grows (allocate t site) n = one_more n
   grows (get_char site) n = one_more n
-  grows (call proc arguments result site) n = grown (lowered_expressions arguments n) _ n (grows_each arguments n) (λ xs. one_more _)
+  grows (call proc arguments result site) n = grown (lowered_arguments arguments n) _ n (grows_each arguments n) (λ xs. one_more _)
   grows (stop number site parts) n = grown (lowered_passed parts n) _ n (grows_passed parts n) (λ x. le_refl _)
 
-  pub grows_each : (es : Expressions) (n : ℕ) → n ≤ (lowered_expressions es n).next
-  grows_each no_expressions n = le_refl n
-  grows_each (an_expression e rest) n =
+  pub grows_each : (es : Arguments) (n : ℕ) → n ≤ (lowered_arguments es n).next
+  grows_each no_arguments n = le_refl n
+  grows_each (an_argument (passed e) rest) n =
       grown (lowered_expression e n) _ n (grows e n) (λ x.
       let m = (lowered_expression e n).next in
-      grown (lowered_expressions rest m) _ m (grows_each rest m) (λ xs. le_refl _))
+      grown (lowered_arguments rest m) _ m (grows_each rest m) (λ xs. le_refl _))
+  grows_each (an_argument (erased parts) rest) n = grown (lowered_passed parts n) _ n (grows_passed parts n) (λ x. grows_each rest (lowered_passed parts n).next)
 
   pub grows_passed : (es : Expressions) (n : ℕ) → n ≤ (lowered_passed es n).next
   grows_passed no_expressions n = le_refl n
@@ -56,7 +57,7 @@ mutual
   grows_passed (an_expression (cell p field t site) rest) n =
       grown (lowered_expression p n) _ n (grows p n) (λ x. let m = (lowered_expression p n).next in le_trans (one_more m) (grows_passed rest (suc m)))
   grows_passed (an_expression (call proc arguments result site) rest) n =
-      grown (lowered_expressions arguments n) _ n (grows_each arguments n) (λ xs. grows_passed rest (lowered_expressions arguments n).next)
+      grown (lowered_arguments arguments n) _ n (grows_each arguments n) (λ xs. grows_passed rest (lowered_arguments arguments n).next)
   grows_passed (an_expression (constant z) rest) n = grown (lowered_expression (constant z) n) (λ _ n. lowered_passed rest n) n (grows (constant z) n) (λ x. grows_passed rest (lowered_expression (constant z) n).next)
   grows_passed (an_expression null rest) n = grown (lowered_expression null n) (λ _ n. lowered_passed rest n) n (grows null n) (λ x. grows_passed rest (lowered_expression null n).next)
   grows_passed (an_expression (negated e) rest) n = grown (lowered_expression (negated e) n) (λ _ n. lowered_passed rest n) n (grows (negated e) n) (λ x. grows_passed rest (lowered_expression (negated e) n).next)
@@ -117,7 +118,7 @@ operand_below m n (truth c) h le a is =
 operand_below m n (cell p field t site) h le a is = valued (lowered_expression p n) _ (λ next a. IsOperandBelow next a) (λ x _ a is. in_next _ a is) a is
 operand_below m n (allocate t site) h le a is = in_next n a is
 operand_below m n (get_char site) h le a is = in_next n a is
-operand_below m n (call proc arguments result site) h le a is = valued (lowered_expressions arguments n) _ (λ next a. IsOperandBelow next a) (λ xs _ a is. in_next _ a is) a is
+operand_below m n (call proc arguments result site) h le a is = valued (lowered_arguments arguments n) _ (λ next a. IsOperandBelow next a) (λ xs _ a is. in_next _ a is) a is
 operand_below m n (stop number site parts) h le a is = valued (lowered_passed parts n) _ (λ next a. IsOperandBelow next a) (λ x _ a is. cc) a is
 
 pub grows_declaration : (i : ℕ) (e : Option Expression) (n : ℕ) → n ≤ (lowered_declaration i e n).next
@@ -152,7 +153,7 @@ mutual
   grows_statement (declare i e) n = grows_declaration i e n
   grows_statement (assign place e) n = grows_assignment place e n
   grows_statement (update op place e) n = grows_update op place e n
-  grows_statement (run_call proc arguments site) n = grown (lowered_expressions arguments n) _ n (grows_each arguments n) (λ xs. le_refl _)
+  grows_statement (run_call proc arguments site) n = grown (lowered_arguments arguments n) _ n (grows_each arguments n) (λ xs. le_refl _)
   grows_statement (free e t site) n = grown (lowered_expression e n) _ n (grows e n) (λ x. le_refl _)
   grows_statement (input site) n = one_more n
   grows_statement (choose c first second) n =

@@ -11,12 +11,12 @@ use Rattle.px_core.specs.Constants.{IsInRange, AreInRange, KeepsToRange, KeepToR
 use Rattle.px_syntax.specs.declared.typed_expression.Arithmetic.{Arithmetic}
 use Rattle.px_syntax.specs.declared.typed_expression.Relation.{Relation}
 use Rattle.px_syntax.specs.declared.typed_expression.Relation.TheVariants as relation
-use Rattle.px_syntax.specs.TypedTree.{Expression, constant, null, local, negated, arithmetic, truth, cell, allocate, get_char, call, stop, Expressions, no_expressions, an_expression, Condition, compare, word, pointer, both, either, opposite, Place, local_place, cell_place, Statement, block, declare, assign, update, run_call, free, input, choose, loop, break, continue, return, evaluate, Statements, no_statements, a_statement}
+use Rattle.px_syntax.specs.TypedTree.{Expression, constant, null, local, negated, arithmetic, truth, cell, allocate, get_char, call, stop, Expressions, no_expressions, an_expression, Arguments, no_arguments, an_argument, passed, erased, Condition, compare, word, pointer, both, either, opposite, Place, local_place, cell_place, Statement, block, declare, assign, update, run_call, free, input, choose, loop, break, continue, return, evaluate, Statements, no_statements, a_statement}
 use Rattle.px_syntax.specs.declared.typed_expression.Arithmetic.TheVariants.{Add, Subtract, Multiply, Divide, Remainder}
 use Rattle.px_meaning.specs.Values.{ValueType, Int, Pointer}
 use Rattle.px_meaning.specs.TypedProgram.{TypedProgram}
 use Rattle.px_meaning.specs.TreeTypes.{LocalTypes, IsOf, AreOf, ArePassed, IsCondition, IsPlaceOf, IsConditionIf, IsDeclared, IsReturned, IsStatement, AreStatements}
-use Rattle.px_lower.specs.Lowering.{Lowered, and_then, giving, doing, copy, copied, lowered_expression, lowered_expressions, lowered_passed, lowered_condition, comparison, lowered_declaration, lowered_assignment, lowered_update, lowered_head, lowered_return, lowered_statement, lowered_statements, applied, operation, result_slot}
+use Rattle.px_lower.specs.Lowering.{Lowered, and_then, giving, doing, copy, copied, lowered_expression, lowered_arguments, lowered_passed, lowered_condition, comparison, lowered_declaration, lowered_assignment, lowered_update, lowered_head, lowered_return, lowered_statement, lowered_statements, applied, operation, result_slot}
 use Rattle.px_lower.proofs.Sequences.{Holds, holds_then, holds_alone}
 
 zero_fits : FitsSigned w32 (pos 0)
@@ -92,18 +92,20 @@ module _ (P : TypedProgram) (locals : LocalTypes) (result : Option ValueType) wh
     expression_kept t (allocate b site) n h = alone IsInRange _ _ _ (tt, tt) tt
     expression_kept t (get_char site) n h = alone IsInRange _ _ _ (tt, tt) tt
     expression_kept t (call proc es result' site) n h =
-        kept_then AreInRange IsInRange (lowered_expressions es n) _ (each_kept h.1.0 es n h.1.1) (λ xs r. alone IsInRange _ _ _ (r, (tt, tt)) tt)
+        kept_then AreInRange IsInRange (lowered_arguments es n) _ (each_kept h.1.0 es n h.1.1) (λ xs r. alone IsInRange _ _ _ (r, (tt, tt)) tt)
     expression_kept t (stop number site parts) n h =
         kept_then Any IsInRange (lowered_passed parts n) _ (passed_kept parts n h) (λ _ _. record { commands = (tt, tt); value = λ a is. cc })
 
-    each_kept : (ts : List ValueType) (es : Expressions) (n : ℕ) → AreOf P locals ts es → Kept AreInRange (lowered_expressions es n)
-    each_kept [] no_expressions n h = alone AreInRange [] [] n tt tt
-    each_kept (t ∷ ts) (an_expression e rest) n h =
+    each_kept : (ts : List ValueType) (es : Arguments) (n : ℕ) → AreOf P locals ts es → Kept AreInRange (lowered_arguments es n)
+    each_kept [] no_arguments n h = alone AreInRange [] [] n tt tt
+    each_kept (t ∷ ts) (an_argument (passed e) rest) n h =
         let m = (lowered_expression e n).next in
         kept_then IsInRange AreInRange (lowered_expression e n) _ (expression_kept t e n h.0) (λ x r.
-        kept_then AreInRange AreInRange (lowered_expressions rest m) _ (each_kept ts rest m h.1) (λ xs q. alone AreInRange _ _ _ tt (r, q)))
-    each_kept [] (an_expression e rest) n h = absurd h
-    each_kept (t ∷ ts) no_expressions n h = absurd h
+        kept_then AreInRange AreInRange (lowered_arguments rest m) _ (each_kept ts rest m h.1) (λ xs q. alone AreInRange _ _ _ tt (r, q)))
+    each_kept [] (an_argument (passed e) rest) n h = absurd h
+    each_kept (t ∷ ts) no_arguments n h = absurd h
+    each_kept ts (an_argument (erased parts) rest) n h =
+        kept_then Any AreInRange (lowered_passed parts n) (λ _ n. lowered_arguments rest n) (passed_kept parts n h.0) (λ x r. each_kept ts rest (lowered_passed parts n).next h.1)
 
     passed_kept : (es : Expressions) (n : ℕ) → ArePassed P locals es → Kept Any (lowered_passed es n)
     passed_kept no_expressions n h = alone Any [] tt n tt tt
@@ -114,8 +116,8 @@ module _ (P : TypedProgram) (locals : LocalTypes) (result : Option ValueType) wh
         let y = passed_kept rest (suc m) h.1 in
         record { commands = (r, (tt, y.commands)); value = λ a is. tt })
     passed_kept (an_expression (call proc es result' site) rest) n h =
-        let m = (lowered_expressions es n).next in
-        kept_then AreInRange Any (lowered_expressions es n) _ (each_kept h.0.0 es n h.0.1) (λ xs r.
+        let m = (lowered_arguments es n).next in
+        kept_then AreInRange Any (lowered_arguments es n) _ (each_kept h.0.0 es n h.0.1) (λ xs r.
         let y = passed_kept rest m h.1 in
         record { commands = (r, y.commands); value = λ a is. tt })
     passed_kept (an_expression (constant z) rest) n h =
@@ -202,7 +204,7 @@ module _ (P : TypedProgram) (locals : LocalTypes) (result : Option ValueType) wh
     statement_kept inside (declare i e) n h = declaration_kept i (locals i) e n h
     statement_kept inside (assign place e) n h = assignment_kept h.0 place e n h.1 h.2
     statement_kept inside (update op place e) n h = update_kept op place e n h.0 h.1
-    statement_kept inside (run_call proc es site) n h = kept_then AreInRange Any (lowered_expressions es n) _ (each_kept h.0 es n h.1) (λ xs r. alone Any _ _ _ (r, tt) tt)
+    statement_kept inside (run_call proc es site) n h = kept_then AreInRange Any (lowered_arguments es n) _ (each_kept h.0 es n h.1) (λ xs r. alone Any _ _ _ (r, tt) tt)
     statement_kept inside (free e b site) n h = kept_then IsInRange Any (lowered_expression e n) _ (expression_kept (Pointer b) e n h) (λ x r. alone Any _ _ _ (r, tt) tt)
     statement_kept inside (input site) n h = alone Any _ _ _ (tt, tt) tt
     statement_kept inside (choose c first second) n h =

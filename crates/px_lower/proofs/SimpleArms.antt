@@ -17,14 +17,14 @@ use Rattle.px_syntax.specs.declared.typed_expression.Condition.{Condition}
 use Rattle.px_syntax.specs.declared.typed_statement.Place.{Place}
 use Rattle.px_syntax.specs.declared.typed_statement.Place.TheVariants as P
 use Rattle.px_syntax.specs.declared.typed_statement.TypedStatement.{TypedStatement}
-use Rattle.px_syntax.specs.TypedTree.{Expression, Expressions, Condition as Test, local_place, cell_place, Statement, statements_of}
+use Rattle.px_syntax.specs.TypedTree.{Expression, Arguments, Condition as Test, local_place, cell_place, Statement, statements_of}
 use Rattle.px_syntax.specs.TypedTree as tree
 use Rattle.px_syntax.specs.TypedViews.{typed_expression, typed_condition, typed_place, typed_statement}
 use Rattle.px_lower.specs.declared.put.Given.{Given}
 use Rattle.px_lower.specs.declared.put.Decided.{Decided}
 use Rattle.px_lower.specs.declared.put.Halt.{Halt}
 use Rattle.px_lower.specs.declared.commands.Operands.{Operands}
-use Rattle.px_lower.specs.Lowering.{Lowered, and_then, doing, giving, loaded, copy, lowered_expression, lowered_expressions, lowered_condition, lowered_declaration, lowered_assignment, lowered_update, lowered_head, lowered_return, lowered_statement, lowered_statements, applied, operation, result_slot}
+use Rattle.px_lower.specs.Lowering.{Lowered, and_then, doing, giving, loaded, copy, lowered_expression, lowered_arguments, lowered_condition, lowered_declaration, lowered_assignment, lowered_update, lowered_head, lowered_return, lowered_statement, lowered_statements, applied, operation, result_slot}
 use Rattle.px_lower.specs.Chains.{Gives, GivesAll, Decides, Does, Ends}
 use Rattle.px_lower.proofs.Chains.{fails_first, goes_on, next_one}
 use Rattle.px_lower.proofs.Arms.{IsErr, begun, slot, nothing, itself, ends_with_value, goes_on_with_value, ends_with_outcome, goes_on_with_outcome, ends_with_arguments, goes_on_with_arguments}
@@ -267,12 +267,12 @@ module _ (s : Statement) (e : Expression) (n : ℕ) (first mid : List CommandTre
   pub free_returns : (x : Given) (z : ℕ) (last : List CommandTree) → Gives (lowered_expression e n) first mid (Ok x) → last ≡ mid ++ command.free x.operand block site ∷ [] → z ≡ x.next → Does (lowered_statement s n) first last (Ok z)
   free_returns x z last q c m = goes_on_with_value e n first mid nothing itself (lowered_statement s n) freeing (ap (λ t. lowered_statement t n) is) x last (Ok z) q (c, refl, sym m)
 
-module _ (es : Expressions) (n : ℕ) (first mid : List CommandTree) (proc : ProcId) (site : Site) where
+module _ (es : Arguments) (n : ℕ) (first mid : List CommandTree) (proc : ProcId) (site : Site) where
   abbrev calling : List Operand → ℕ → Lowered ⊤
   calling xs n = doing (command.call None proc xs site) n
 
-  pub call_fails : (h : Halt) (z : Result ℕ Halt) → IsErr z h → GivesAll (lowered_expressions es n) first mid (Err h) → Does (lowered_statement (tree.run_call proc es site) n) first mid z
+  pub call_fails : (h : Halt) (z : Result ℕ Halt) → IsErr z h → GivesAll (lowered_arguments es n) first mid (Err h) → Does (lowered_statement (tree.run_call proc es site) n) first mid z
   call_fails h z p q = ends_with_arguments es n first mid nothing itself (lowered_statement (tree.run_call proc es site) n) calling refl h z p q
 
-  pub call_puts : (x : Operands) (z : ℕ) (last : List CommandTree) → GivesAll (lowered_expressions es n) first mid (Ok x) → last ≡ mid ++ command.call None proc x.operands.items site ∷ [] → z ≡ x.next → Does (lowered_statement (tree.run_call proc es site) n) first last (Ok z)
+  pub call_puts : (x : Operands) (z : ℕ) (last : List CommandTree) → GivesAll (lowered_arguments es n) first mid (Ok x) → last ≡ mid ++ command.call None proc x.operands.items site ∷ [] → z ≡ x.next → Does (lowered_statement (tree.run_call proc es site) n) first last (Ok z)
   call_puts x z last q c m = goes_on_with_arguments es n first mid nothing itself (lowered_statement (tree.run_call proc es site) n) calling refl x last (Ok z) q (c, refl, sym m)

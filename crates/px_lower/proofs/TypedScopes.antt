@@ -2,13 +2,13 @@
 use Rattle.std.proofs.Common.{◌≡◌, ℕ, ◌<◌, Bool, true, false, IsTrue, List, [], ◌∷◌, ◌++◌, Option, None, Some, refl, subst, length-append}
 use Rattle.std.proofs.lemmas.Option.{slice_get_within}
 use Rattle.px_syntax.specs.declared.typed_expression.Relation.TheVariants as relation
-use Rattle.px_syntax.specs.TypedTree.{Expression, constant, null, local, negated, arithmetic, truth, cell, allocate, get_char, call, stop, Expressions, no_expressions, an_expression, Condition, compare, word, pointer, both, either, opposite, Place, local_place, cell_place, Statement, block, declare, assign, update, run_call, free, input, choose, loop, break, continue, return, evaluate, Statements, no_statements, a_statement}
+use Rattle.px_syntax.specs.TypedTree.{Expression, constant, null, local, negated, arithmetic, truth, cell, allocate, get_char, call, stop, Expressions, no_expressions, an_expression, Arguments, no_arguments, an_argument, passed, erased, Condition, compare, word, pointer, both, either, opposite, Place, local_place, cell_place, Statement, block, declare, assign, update, run_call, free, input, choose, loop, break, continue, return, evaluate, Statements, no_statements, a_statement}
 use Rattle.px_syntax.specs.ProgramTree.{ProcedureTree}
 use Rattle.px_meaning.specs.Values.{ValueType, Int, Pointer}
 use Rattle.px_meaning.specs.TypedProgram.{TypedProgram}
 use Rattle.px_meaning.specs.TreeTypes.{LocalTypes, IsOf, AreOf, ArePassed, IsCondition, IsPlaceOf, IsConditionIf, IsDeclared, IsReturned, IsStep, IsStatement, AreStatements, local_types, IsTypedProcedure, KeepsTyping}
 use Rattle.px_lower.specs.LoweredProgram.{locals_of}
-use Rattle.px_lower.specs.Scopes.{IsWithin, AreWithin, IsTestWithin, IsPlaceWithin, IsWithinIf, IsTestWithinIf, IsStatementWithin, AreStatementsWithin, KeepsScopes}
+use Rattle.px_lower.specs.Scopes.{IsWithin, AreWithin, AreArgumentsWithin, IsTestWithin, IsPlaceWithin, IsWithinIf, IsTestWithinIf, IsStatementWithin, AreStatementsWithin, KeepsScopes}
 
 module _ (P : TypedProgram) (locals : LocalTypes) (m : ℕ) (below : (i : ℕ) (t : ValueType) → locals i ≡ Some t → i < m) where
   mutual
@@ -25,11 +25,12 @@ module _ (P : TypedProgram) (locals : LocalTypes) (m : ℕ) (below : (i : ℕ) (
     within t (call proc es result site) h = each_within h.1.0 es h.1.1
     within t (stop number site parts) h = passed_within parts h
 
-    each_within : (ts : List ValueType) (es : Expressions) → AreOf P locals ts es → AreWithin m es
-    each_within [] no_expressions h = tt
-    each_within (t ∷ ts) (an_expression e rest) h = (within t e h.0, each_within ts rest h.1)
-    each_within [] (an_expression e rest) h = absurd h
-    each_within (t ∷ ts) no_expressions h = absurd h
+    each_within : (ts : List ValueType) (es : Arguments) → AreOf P locals ts es → AreArgumentsWithin m es
+    each_within [] no_arguments h = tt
+    each_within (t ∷ ts) (an_argument (passed e) rest) h = (within t e h.0, each_within ts rest h.1)
+    each_within [] (an_argument (passed e) rest) h = absurd h
+    each_within (t ∷ ts) no_arguments h = absurd h
+    each_within ts (an_argument (erased parts) rest) h = (passed_within parts h.0, each_within ts rest h.1)
 
     passed_within : (es : Expressions) → ArePassed P locals es → AreWithin m es
     passed_within no_expressions h = tt

@@ -22,6 +22,11 @@ Gives = Puts (λ x. x.operand) (λ x. x.next)
 abbrev pub GivesAll : Lowered (List Operand) → List CommandTree → List CommandTree → Result Operands Halt → Type 0
 GivesAll = Puts (λ x. x.operands.items) (λ x. x.next)
 
+-- the values stand behind those that are there
+abbrev pub GivesMore : Lowered (List Operand) → List CommandTree → List CommandTree → List Operand → List Operand → Result ℕ Halt → Type 0
+GivesMore wanted before after there values (Ok n) = (more : List Operand) × (values ≡ there ++ more) × Puts (λ xs. xs) (λ xs. n) wanted before after (Ok more)
+GivesMore wanted before after there values (Err h) = Puts (λ (xs : List Operand). xs) (λ xs. 0) wanted before after (Err h)
+
 abbrev pub Decides : Lowered ℕ → List CommandTree → List CommandTree → Result Decided Halt → Type 0
 Decides = Puts (λ x. x.slot) (λ x. x.next)
 

@@ -18,7 +18,7 @@ use Rattle.px_syntax.specs.declared.typed_expression.Arithmetic.{Arithmetic}
 use Rattle.px_syntax.specs.declared.typed_expression.Arithmetic.TheVariants as arithmetic
 use Rattle.px_syntax.specs.declared.typed_expression.Relation.{Relation}
 use Rattle.px_syntax.specs.declared.typed_expression.Relation.TheVariants as relation
-use Rattle.px_syntax.specs.TypedTree.{Expression, Expressions, Condition, Place, Statement, Statements}
+use Rattle.px_syntax.specs.TypedTree.{Expression, Expressions, Arguments, Condition, Place, Statement, Statements}
 use Rattle.px_syntax.specs.TypedTree as tree
 
 -- the test of a comparison: `a > b` is `b < a`, and `a >= b` is `b <= a`
@@ -136,12 +136,14 @@ abbrev mutual
   lowered_expression (tree.cell p field block site) n = and_then (lowered_expression p n) (λ x n. loaded x field block site n)
   lowered_expression (tree.allocate block site) n = giving (λ to. malloc to block site) n
   lowered_expression (tree.get_char site) n = giving (λ to. input to site) n
-  lowered_expression (tree.call proc arguments result site) n = and_then (lowered_expressions arguments n) (λ xs n. called proc xs site n)
+  lowered_expression (tree.call proc arguments result site) n = and_then (lowered_arguments arguments n) (λ xs n. called proc xs site n)
   lowered_expression (tree.stop number site parts) n = and_then (lowered_passed parts n) (λ _ n. stopping number site n)
 
-  pub lowered_expressions : Expressions → ℕ → Lowered (List Operand)
-  lowered_expressions tree.no_expressions n = ready [] n
-  lowered_expressions (tree.an_expression e rest) n = and_then (lowered_expression e n) (λ x n. and_then (lowered_expressions rest n) (λ xs n. ready (x ∷ xs) n))
+  -- the operands are those of the arguments that are passed
+  pub lowered_arguments : Arguments → ℕ → Lowered (List Operand)
+  lowered_arguments tree.no_arguments n = ready [] n
+  lowered_arguments (tree.an_argument (tree.passed e) rest) n = and_then (lowered_expression e n) (λ x n. and_then (lowered_arguments rest n) (λ xs n. ready (x ∷ xs) n))
+  lowered_arguments (tree.an_argument (tree.erased parts) rest) n = and_then (lowered_passed parts n) (λ _ n. lowered_arguments rest n)
 
   -- values that aren't read: a local takes no command, what is loaded is unset, and what a call gives isn't kept
   pub lowered_passed : Expressions → ℕ → Lowered ⊤
@@ -150,7 +152,7 @@ abbrev mutual
   lowered_passed (tree.an_expression (tree.cell p field block site) rest) n =
       and_then (lowered_expression p n) (λ x n. and_then (reached x field block site n) (λ _ n. lowered_passed rest n))
   lowered_passed (tree.an_expression (tree.call proc arguments result site) rest) n =
-      and_then (lowered_expressions arguments n) (λ xs n. and_then (doing (call None proc xs site) n) (λ _ n. lowered_passed rest n))
+      and_then (lowered_arguments arguments n) (λ xs n. and_then (doing (call None proc xs site) n) (λ _ n. lowered_passed rest n))
   lowered_passed (tree.an_expression e rest) n = and_then (lowered_expression e n) (λ _ n. lowered_passed rest n)
 
   -- a word is compared with 0, and a pointer with null; `!c` is 1 - c; `&&` and `||` copy the left side's
@@ -200,7 +202,7 @@ abbrev mutual
   lowered_statement (tree.declare i e) n = lowered_declaration i e n
   lowered_statement (tree.assign place e) n = lowered_assignment place e n
   lowered_statement (tree.update op place e) n = lowered_update op place e n
-  lowered_statement (tree.run_call proc arguments site) n = and_then (lowered_expressions arguments n) (λ xs n. doing (call None proc xs site) n)
+  lowered_statement (tree.run_call proc arguments site) n = and_then (lowered_arguments arguments n) (λ xs n. doing (call None proc xs site) n)
   lowered_statement (tree.free e block site) n = and_then (lowered_expression e n) (λ x n. doing (free x block site) n)
   lowered_statement (tree.input site) n = and_then (giving (λ to. input to site) n) (λ _ n. ready tt n)
   lowered_statement (tree.choose c first second) n = and_then (lowered_condition c n) (λ slot n.

@@ -1,7 +1,7 @@
 -- What the law of lowering asks of a tree: its locals are those of the procedure, and the step of a loop
 -- neither breaks nor continues. Trees that keep the typing rules are such trees.
 use Rattle.std.specs.Prelude.{◌≡◌, ℕ, ◌<◌, Bool, true, false, IsTrue, Option, None, Some, ⊤}
-use Rattle.px_syntax.specs.TypedTree.{Expression, constant, null, local, negated, arithmetic, truth, cell, allocate, get_char, call, stop, Expressions, no_expressions, an_expression, Condition, compare, word, pointer, both, either, opposite, Place, local_place, cell_place, Statement, block, declare, assign, update, run_call, free, input, choose, loop, break, continue, return, evaluate, Statements, no_statements, a_statement}
+use Rattle.px_syntax.specs.TypedTree.{Expression, constant, null, local, negated, arithmetic, truth, cell, allocate, get_char, call, stop, Expressions, no_expressions, an_expression, Arguments, no_arguments, an_argument, passed, erased, Condition, compare, word, pointer, both, either, opposite, Place, local_place, cell_place, Statement, block, declare, assign, update, run_call, free, input, choose, loop, break, continue, return, evaluate, Statements, no_statements, a_statement}
 use Rattle.px_syntax.specs.ProgramTree.{ProcedureTree}
 use Rattle.px_meaning.specs.TypedProgram.{TypedProgram}
 use Rattle.px_lower.specs.LoweredProgram.{locals_of}
@@ -18,12 +18,17 @@ abbrev mutual
   IsWithin m (cell p field t site) = IsWithin m p
   IsWithin m (allocate t site) = ⊤
   IsWithin m (get_char site) = ⊤
-  IsWithin m (call proc arguments result site) = AreWithin m arguments
+  IsWithin m (call proc arguments result site) = AreArgumentsWithin m arguments
   IsWithin m (stop number site parts) = AreWithin m parts
 
   pub AreWithin : ℕ → Expressions → Type 0
   AreWithin m no_expressions = ⊤
   AreWithin m (an_expression e rest) = IsWithin m e × AreWithin m rest
+
+  pub AreArgumentsWithin : ℕ → Arguments → Type 0
+  AreArgumentsWithin m no_arguments = ⊤
+  AreArgumentsWithin m (an_argument (passed e) rest) = IsWithin m e × AreArgumentsWithin m rest
+  AreArgumentsWithin m (an_argument (erased parts) rest) = AreWithin m parts × AreArgumentsWithin m rest
 
   pub IsTestWithin : ℕ → Condition → Type 0
   IsTestWithin m (compare r a b site) = IsWithin m a × IsWithin m b
@@ -52,7 +57,7 @@ abbrev mutual
   IsStatementWithin m leaves (declare i e) = (i < m) × IsWithinIf m e
   IsStatementWithin m leaves (assign place e) = IsPlaceWithin m place × IsWithin m e
   IsStatementWithin m leaves (update op place e) = IsPlaceWithin m place × IsWithin m e
-  IsStatementWithin m leaves (run_call proc arguments site) = AreWithin m arguments
+  IsStatementWithin m leaves (run_call proc arguments site) = AreArgumentsWithin m arguments
   IsStatementWithin m leaves (free e t site) = IsWithin m e
   IsStatementWithin m leaves (input site) = ⊤
   IsStatementWithin m leaves (choose c first second) = IsTestWithin m c × IsStatementWithin m leaves first × IsStatementWithin m leaves second

@@ -146,16 +146,25 @@ pub record WorkedBodies : Type 0 where
       (unset 0 ∷ [])
   -- `return f(a, -b);`
   pub used_call :
-      Becomes (tree.return (Some (tree.call callee (tree.an_expression (tree.local 0 (at 3)) (tree.an_expression (tree.negated (tree.local 1 (at 5))) tree.no_expressions)) Int (at 2)))) 2 4
+      Becomes (tree.return (Some (tree.call callee (tree.an_argument (tree.passed (tree.local 0 (at 3))) (tree.an_argument (tree.passed (tree.negated (tree.local 1 (at 5)))) tree.no_arguments)) Int (at 2)))) 2 4
       (read 0 (at 3) ∷ read 1 (at 5) ∷ assign 2 Neg (Slot 1) (Word (pos 0)) ∷ call (Some 3) callee ((Slot 0) ∷ (Slot 2) ∷ []) (at 2) ∷ read 3 (at 2) ∷ return (Some (Slot 3)) ∷ [])
   -- `f();`
   pub call_statement :
-      Becomes (tree.run_call callee tree.no_expressions (at 2)) 0 0
+      Becomes (tree.run_call callee tree.no_arguments (at 2)) 0 0
       (call None callee [] (at 2) ∷ [])
   -- `f(5, NULL);`
   pub call_statement_with_arguments :
-      Becomes (tree.run_call callee (tree.an_expression (tree.constant (pos 5)) (tree.an_expression tree.null tree.no_expressions)) (at 2)) 0 0
+      Becomes (tree.run_call callee (tree.an_argument (tree.passed (tree.constant (pos 5))) (tree.an_argument (tree.passed tree.null) tree.no_arguments)) (at 2)) 0 0
       (call None callee ((Word (pos 5)) ∷ Null ∷ []) (at 2) ∷ [])
+  -- `f(*a, b);`, whose first argument isn't passed
+  pub call_with_erased :
+      Becomes (tree.run_call callee (tree.an_argument (tree.erased (tree.an_expression (star (tree.local 0 (at 5)) 4) tree.no_expressions)) (tree.an_argument (tree.passed (tree.local 1 (at 7))) tree.no_arguments)) (at 2)) 2 3
+      (read 0 (at 5) ∷ load 2 (Slot 0) first ints (at 4) ∷ unset 2 ∷ read 1 (at 7) ∷ call None callee ((Slot 1) ∷ []) (at 2) ∷ [])
+  -- `return f(a, g() + *b);`, whose second argument isn't passed: its parts are `g()` and `*b`
+  pub used_call_with_erased :
+      Becomes (tree.return (Some (tree.call callee (tree.an_argument (tree.passed (tree.local 0 (at 3))) (tree.an_argument (tree.erased
+      (tree.an_expression (tree.call callee tree.no_arguments Int (at 5)) (tree.an_expression (star (tree.local 1 (at 8)) 7) tree.no_expressions))) tree.no_arguments)) Int (at 2)))) 2 4
+      (read 0 (at 3) ∷ call None callee [] (at 5) ∷ read 1 (at 8) ∷ load 2 (Slot 1) first ints (at 7) ∷ unset 2 ∷ call (Some 3) callee ((Slot 0) ∷ []) (at 2) ∷ read 3 (at 2) ∷ return (Some (Slot 3)) ∷ [])
   -- `free(a);`
   pub freed :
       Becomes (tree.free (tree.local 0 (at 2)) ints (at 1)) 1 1
@@ -218,7 +227,7 @@ pub record WorkedBodies : Type 0 where
       (loop (at 1) (a_command (read 0 (at 3)) (a_command (test 1 test.Unequal (Slot 0) (Word (pos 0)) (at 2)) (a_command (choose 1 no_commands (a_command leave no_commands)) no_commands))) (a_command (read 0 (at 6)) (a_command (assign 2 Sub (Slot 0) (Word (pos 1))) (a_command (assign 0 Copy (Slot 2) (Word (pos 0))) no_commands))) no_commands ∷ [])
   -- `for (int a = 0; a < 3; a += 1) f(a);`
   pub for_loop :
-      Becomes (tree.block (tree.a_statement (tree.declare 0 (Some (tree.constant (pos 0)))) (tree.a_statement (tree.loop (at 5) (Some (tree.compare relation.Less (tree.local 0 (at 7)) (tree.constant (pos 3)) (at 6))) (tree.run_call callee (tree.an_expression (tree.local 0 (at 11)) tree.no_expressions) (at 10)) (tree.update arithmetic.Add (tree.local_place 0 (at 15)) (tree.constant (pos 1)))) tree.no_statements))) 1 3
+      Becomes (tree.block (tree.a_statement (tree.declare 0 (Some (tree.constant (pos 0)))) (tree.a_statement (tree.loop (at 5) (Some (tree.compare relation.Less (tree.local 0 (at 7)) (tree.constant (pos 3)) (at 6))) (tree.run_call callee (tree.an_argument (tree.passed (tree.local 0 (at 11))) tree.no_arguments) (at 10)) (tree.update arithmetic.Add (tree.local_place 0 (at 15)) (tree.constant (pos 1)))) tree.no_statements))) 1 3
       (unset 0 ∷ assign 0 Copy (Word (pos 0)) (Word (pos 0)) ∷ loop (at 5) (a_command (read 0 (at 7)) (a_command (test 1 test.Less (Slot 0) (Word (pos 3)) (at 6)) (a_command (choose 1 no_commands (a_command leave no_commands)) no_commands))) (a_command (read 0 (at 11)) (a_command (call None callee ((Slot 0) ∷ []) (at 10)) no_commands)) (a_command (read 0 (at 15)) (a_command (assign 2 Add (Slot 0) (Word (pos 1))) (a_command (assign 0 Copy (Slot 2) (Word (pos 0))) no_commands))) ∷ [])
   -- `for (; ; a += 1) if (a) break;`
   pub for_without_condition :
@@ -242,7 +251,7 @@ pub record WorkedBodies : Type 0 where
       (read 0 (at 3) ∷ load 1 (Slot 0) first ints (at 2) ∷ unset 1 ∷ [])
   -- `f(a);`
   pub value_of_call :
-      Becomes (tree.evaluate (tree.call callee (tree.an_expression (tree.local 0 (at 3)) tree.no_expressions) Int (at 2))) 1 1
+      Becomes (tree.evaluate (tree.call callee (tree.an_argument (tree.passed (tree.local 0 (at 3))) tree.no_arguments) Int (at 2))) 1 1
       (read 0 (at 3) ∷ call None callee ((Slot 0) ∷ []) (at 2) ∷ [])
   -- `a + *b;`
   pub value_of_sum :
@@ -254,8 +263,12 @@ pub record WorkedBodies : Type 0 where
       (stop 7 (at 2) ∷ [])
   -- `outside(a, *b, f(), getchar());`
   pub stopped_after_parts :
-      Stops (tree.evaluate (outside (tree.an_expression (tree.local 0 (at 3)) (tree.an_expression (star (tree.local 1 (at 5)) 4) (tree.an_expression (tree.call callee tree.no_expressions Int (at 6)) (tree.an_expression (tree.get_char (at 7)) tree.no_expressions)))) 2)) 2 4
+      Stops (tree.evaluate (outside (tree.an_expression (tree.local 0 (at 3)) (tree.an_expression (star (tree.local 1 (at 5)) 4) (tree.an_expression (tree.call callee tree.no_arguments Int (at 6)) (tree.an_expression (tree.get_char (at 7)) tree.no_expressions)))) 2)) 2 4
       (read 1 (at 5) ∷ load 2 (Slot 1) first ints (at 4) ∷ unset 2 ∷ call None callee [] (at 6) ∷ input 3 (at 7) ∷ stop 7 (at 2) ∷ [])
+  -- `f(a, outside, b);`, whose second argument isn't passed
+  pub stopped_in_erased :
+      Stops (tree.run_call callee (tree.an_argument (tree.passed (tree.local 0 (at 3))) (tree.an_argument (tree.erased (tree.an_expression (outside tree.no_expressions 4) tree.no_expressions)) (tree.an_argument (tree.passed (tree.local 1 (at 5))) tree.no_arguments))) (at 2)) 2 2
+      (read 0 (at 3) ∷ stop 7 (at 4) ∷ [])
   -- `a = b + outside; return;`
   pub nothing_behind :
       Stops (tree.block (tree.a_statement (tree.assign (tree.local_place 0 (at 2)) (tree.arithmetic arithmetic.Add (tree.local 1 (at 4)) (outside tree.no_expressions 5))) (tree.a_statement (tree.return None) tree.no_statements))) 2 2
@@ -266,5 +279,5 @@ pub record WorkedBodies : Type 0 where
       (read 0 (at 4) ∷ test 1 test.Unequal (Slot 0) (Word (pos 0)) (at 3) ∷ assign 2 Copy (Slot 1) (Word (pos 0)) ∷ choose 2 (a_command (stop 7 (at 6)) no_commands) no_commands ∷ choose 2 (a_command (stop 7 (at 7)) no_commands) no_commands ∷ return None ∷ [])
   -- `while (outside) f();`
   pub head_of_loop :
-      Becomes (tree.loop (at 1) (Some (tree.word (outside tree.no_expressions 3) (at 2))) (tree.run_call callee tree.no_expressions (at 4)) (tree.block tree.no_statements)) 0 0
+      Becomes (tree.loop (at 1) (Some (tree.word (outside tree.no_expressions 3) (at 2))) (tree.run_call callee tree.no_arguments (at 4)) (tree.block tree.no_statements)) 0 0
       (loop (at 1) (a_command (stop 7 (at 3)) no_commands) (a_command (call None callee [] (at 4)) no_commands) no_commands ∷ [])

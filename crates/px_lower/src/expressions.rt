@@ -1,11 +1,11 @@
 ghost use Rattle.std.specs.Prelude.{ℕ, ◌≡◌, ◌++◌, List, Ok, suc, map, IfOk, OnOk};
 ghost use Rattle.px_core.specs.CommandTree.{CommandTree, command_tree};
-ghost use Rattle.px_syntax.specs.TypedTree.{expressions_of};
+ghost use Rattle.px_syntax.specs.TypedTree.{expressions_of, arguments_of};
 ghost use Rattle.px_syntax.specs.TypedTree as tree;
-ghost use Rattle.px_syntax.specs.TypedViews.{typed_expression, typed_condition, arithmetic_link, relation_link, calculated, compared, all_of, any_of};
+ghost use Rattle.px_syntax.specs.TypedViews.{typed_expression, typed_argument, typed_condition, arithmetic_link, relation_link, calculated, compared, all_of, any_of};
 ghost use Rattle.px_syntax.specs.TypedViews as views;
-ghost use Rattle.px_lower.specs.Lowering.{lowered_expression, lowered_expressions, lowered_passed, lowered_condition, and_rest, or_rest, copied};
-ghost use Rattle.px_lower.specs.Chains.{Gives, GivesAll, Decides, Does};
+ghost use Rattle.px_lower.specs.Lowering.{lowered_expression, lowered_arguments, lowered_passed, lowered_condition, and_rest, or_rest, copied};
+ghost use Rattle.px_lower.specs.Chains.{Gives, GivesAll, GivesMore, Decides, Does};
 
 use crate::commands::{
     Operands, allocate, calculate, cell_reached, cell_value, compare, copy_of, get_char,
@@ -14,7 +14,9 @@ use crate::commands::{
 use crate::put::{Decided, Given, Halt, behind_list, decide, put};
 use px_base::Site;
 use px_core::{Command, Operand};
-use px_syntax::{ArithmeticLink, CellLink, Condition, Relation, RelationLink, TypedExpression};
+use px_syntax::{
+    Argument, ArithmeticLink, CellLink, Condition, Relation, RelationLink, TypedExpression,
+};
 use px_terms::NoMemory;
 use std::alloc::Global;
 
@@ -172,28 +174,48 @@ fn cells(
     Ok(at)
 }
 
-/// The commands of arguments.
+/// The commands of arguments, with the operands of those that are passed.
 #[cycle(lower)]
 #[tactic(auto, using(px_core::proofs::CommandEquations::trees))]
 pub fn arguments(
     alloc: Global,
-    es: &[TypedExpression],
+    es: &[Argument],
     next: u32,
     out: &mut Vec<Command>,
 ) -> Result<Operands, Halt>
-    ensures { GivesAll (lowered_expressions (expressions_of (map typed_expression es.now)) next) (map command_tree out.old.items) (map command_tree out.new.items) result }
+    ensures { GivesAll (lowered_arguments (arguments_of (map typed_argument es.now)) next) (map command_tree out.old.items) (map command_tree out.new.items) result }
 {
     let mut operands = Vec::with_capacity(alloc, es.len())?;
     let mut behind = next;
     for e in es {
-        let x = expression(alloc, e, behind, out)?;
-        operands.push(x.operand)?;
-        behind = x.next;
+        behind = argument(alloc, e, behind, &mut operands, out)?;
     }
     Ok(Operands {
         operands,
         next: behind,
     })
+}
+
+// The commands of an argument. Its operand, where it is passed, stands behind those that are there.
+#[cycle(lower)]
+#[tactic(auto, using(px_syntax::proofs::TypedEquations::typed_trees))]
+fn argument(
+    alloc: Global,
+    e: &Argument,
+    next: u32,
+    operands: &mut Vec<Operand>,
+    out: &mut Vec<Command>,
+) -> Result<u32, Halt>
+    ensures { GivesMore (lowered_arguments (tree.an_argument (typed_argument e.now) tree.no_arguments) next) (map command_tree out.old.items) (map command_tree out.new.items) operands.old.items operands.new.items result }
+{
+    match e {
+        Argument::Passed { value } => {
+            let x = expression(alloc, value, next, out)?;
+            operands.push(x.operand)?;
+            Ok(x.next)
+        }
+        Argument::Erased { parts } => effects(alloc, parts, next, out),
+    }
 }
 
 /// The commands of a condition.

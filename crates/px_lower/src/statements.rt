@@ -1,8 +1,8 @@
 ghost use Rattle.std.specs.Prelude.{map};
 ghost use Rattle.px_core.specs.CommandTree.{command_tree};
-ghost use Rattle.px_syntax.specs.TypedTree.{expressions_of, statements_of};
+ghost use Rattle.px_syntax.specs.TypedTree.{arguments_of, statements_of};
 ghost use Rattle.px_syntax.specs.TypedTree as tree;
-ghost use Rattle.px_syntax.specs.TypedViews.{typed_expression, typed_statement};
+ghost use Rattle.px_syntax.specs.TypedViews.{typed_argument, typed_statement};
 ghost use Rattle.px_lower.specs.Lowering.{lowered_statement, lowered_statements};
 ghost use Rattle.px_lower.specs.Chains.{Does};
 
@@ -12,19 +12,19 @@ use crate::put::{Halt, behind_list, give, put};
 use crate::simple::{assignment, declaration, give_back, head, update};
 use px_base::{ProcId, Site};
 use px_core::Command;
-use px_syntax::{TypedExpression, TypedStatement};
+use px_syntax::{Argument, TypedStatement};
 use std::alloc::Global;
 
 #[tactic(auto, using(px_core::proofs::CommandEquations::trees))]
 fn call_statement(
     alloc: Global,
     proc: ProcId,
-    es: &[TypedExpression],
+    es: &[Argument],
     site: Site,
     next: u32,
     out: &mut Vec<Command>,
 ) -> Result<u32, Halt>
-    ensures { Does (lowered_statement (tree.run_call proc (expressions_of (map typed_expression es.now)) site) next) (map command_tree out.old.items) (map command_tree out.new.items) result }
+    ensures { Does (lowered_statement (tree.run_call proc (arguments_of (map typed_argument es.now)) site) next) (map command_tree out.old.items) (map command_tree out.new.items) result }
 {
     let x = arguments(alloc, es, next, out)?;
     Ok(unused_call(proc, x, site, out)?)

@@ -14,7 +14,7 @@ use Rattle.px_meaning.specs.Execution.{Locals, with_local}
 use Rattle.px_meaning.specs.Events.{Event, reads, makes}
 use Rattle.px_meaning.specs.Operations.{value_at, result_of, on_words}
 use Rattle.px_meaning.specs.Steps.{ProcedureCalls, marking, live_block, freed_block}
-use Rattle.px_syntax.specs.TypedTree.{Expression, constant, null, local, negated, arithmetic, truth, cell, allocate, get_char, call, stop, Expressions, no_expressions, an_expression, Condition, compare, word, pointer, both, either, opposite, Place, local_place, cell_place, Statement, block, declare, assign, update, run_call, free, input, choose, loop, break, continue, return, evaluate, Statements, no_statements, a_statement}
+use Rattle.px_syntax.specs.TypedTree.{Expression, constant, null, local, negated, arithmetic, truth, cell, allocate, get_char, call, stop, Expressions, no_expressions, an_expression, Arguments, no_arguments, an_argument, passed, erased, Condition, compare, word, pointer, both, either, opposite, Place, local_place, cell_place, Statement, block, declare, assign, update, run_call, free, input, choose, loop, break, continue, return, evaluate, Statements, no_statements, a_statement}
 use Rattle.px_syntax.specs.declared.typed_expression.Arithmetic.{Arithmetic}
 use Rattle.px_meaning.specs.TreeExecution.{gives, errs, Outcomes, with_value, by_outcome, yes, no, fault, Verdicts, with_verdict, Exit, falls, breaks, continues, returns, fails, Exits, with_fall, behind_body, Uses, Loads, calculation, Calculates, Reaches, Stores, Returns, CallsProcedure, Branches, Evaluates, EvaluatesAll, PassesAll, Tests, failing, Takes, Declares, Assigns, Updates, Frees, TestsIf, Loops, GivesBack, Executes, ExecutesAll}
 use Rattle.px_meaning.proofs.TreeBegins.{Begins, shorter}
@@ -207,11 +207,13 @@ module _ {E : Type 0} (seen : Event → E) (types : List BlockType) (C D : Proce
     eval_to (stop number site es) l a heap K L o oe h =
         passes_to es l a heap (errors K) (λ z. errors (L z)) _ _ oe (λ a h. o a (errs (outside number) site) h) h
 
-    all_to : (es : Expressions) (l : Locals) (a : List E) (heap : HeapMap) (err : List E → Halt → Site → HeapMap → Type 0) (err' : X → List E → Halt → Site → HeapMap → Type 0) (f : List E → List Value → HeapMap → Type 0) (g : X → List E → List Value → HeapMap → Type 0) →
+    all_to : (es : Arguments) (l : Locals) (a : List E) (heap : HeapMap) (err : List E → Halt → Site → HeapMap → Type 0) (err' : X → List E → Halt → Site → HeapMap → Type 0) (f : List E → List Value → HeapMap → Type 0) (g : X → List E → List Value → HeapMap → Type 0) →
         ToErr err err' → To f g → EvaluatesAll seen types C es l a heap err f → Pick a (λ z. EvaluatesAll seen types D es l a heap (err' z) (g z))
-    all_to no_expressions l a heap err err' f g oe o h = o _ _ _ h
-    all_to (an_expression e rest) l a heap err err' f g oe o h =
+    all_to no_arguments l a heap err err' f g oe o h = o _ _ _ h
+    all_to (an_argument (passed e) rest) l a heap err err' f g oe o h =
         eval_to e l a heap _ _ (outcome_to err err' _ _ oe (λ a v h. all_to rest l a h err err' _ _ oe (λ a vs h. o a (v ∷ vs) h))) oe h
+    all_to (an_argument (erased parts) rest) l a heap err err' f g oe o h =
+        passes_to parts l a heap err err' _ _ oe (λ a h. all_to rest l a h err err' f g oe o) h
 
     passes_to : (es : Expressions) (l : Locals) (a : List E) (heap : HeapMap) (err : List E → Halt → Site → HeapMap → Type 0) (err' : X → List E → Halt → Site → HeapMap → Type 0) (f : List E → HeapMap → Type 0) (g : X → List E → HeapMap → Type 0) →
         ToErr err err' → ToOn f g → PassesAll seen types C es l a heap err f → Pick a (λ z. PassesAll seen types D es l a heap (err' z) (g z))

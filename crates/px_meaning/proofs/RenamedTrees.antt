@@ -18,7 +18,7 @@ use Rattle.px_meaning.specs.Execution.{Locals, with_local}
 use Rattle.px_meaning.specs.Events.{Event, marks, reads, mark, unnumbered}
 use Rattle.px_meaning.specs.Operations.{value_at, result_of, wrapped, on_words}
 use Rattle.px_meaning.specs.Steps.{ProcedureCalls, marking, by_state, by_pointer, by_written, new_block}
-use Rattle.px_syntax.specs.TypedTree.{Expression, constant, null, local, negated, arithmetic, truth, cell, allocate, get_char, call, stop, Expressions, no_expressions, an_expression, Condition, compare, word, pointer, both, either, opposite}
+use Rattle.px_syntax.specs.TypedTree.{Expression, constant, null, local, negated, arithmetic, truth, cell, allocate, get_char, call, stop, Expressions, no_expressions, an_expression, Arguments, no_arguments, an_argument, passed, erased, Condition, compare, word, pointer, both, either, opposite}
 use Rattle.px_syntax.specs.declared.typed_expression.Arithmetic.{Arithmetic}
 use Rattle.px_syntax.specs.declared.typed_expression.Arithmetic.TheVariants.{Add, Subtract, Multiply, Divide, Remainder}
 use Rattle.px_meaning.specs.TreeExecution.{Outcome, gives, errs, Outcomes, with_value, by_outcome, Verdict, yes, no, fault, Verdicts, with_verdict, Uses, Loads, division, calculation, Calculates, Reaches, Returns, CallsProcedure, Branches, Evaluates, EvaluatesAll, PassesAll, Tests}
@@ -316,16 +316,21 @@ module _ (types : List BlockType) (C D : ProcedureCalls Event) (agree : AgreeBut
         (λ S w a kind at h i tied. on S w a (errs kind at) (errs kind at) h i (refl, refl) tied)
         (λ S w a h i tied. on S w a (errs (outside number) site) (errs (outside number) site) h i (refl, refl) tied) k k'
 
-    pub all_both : (es : Expressions) (R : Renaming) (l m : Locals) (a : List Event) (h i : HeapMap) (err err' : List Event → Halt → Site → HeapMap → Type 0) (f f' : List Event → List Value → HeapMap → Type 0) →
+    pub all_both : (es : Arguments) (R : Renaming) (l m : Locals) (a : List Event) (h i : HeapMap) (err err' : List Event → Halt → Site → HeapMap → Type 0) (f f' : List Event → List Value → HeapMap → Type 0) →
         SameLocals R l m → Tied R h i → OpensErr s err → OpensErr t err' → Opens s f → Opens t f' → BothErr Z R err err' → BothValues Z R f f' →
         EvaluatesAll un types C es l a h err f → EvaluatesAll un types D es m a i err' f' → Z
-    all_both no_expressions R l m a h i err err' f f' same tied oe oe' of of' be bf k k' = bf R (within_refl R) _ _ _ _ _ tt tied k k'
-    all_both (an_expression e rest) R l m a h i err err' f f' same tied oe oe' of of' be bf k k' =
+    all_both no_arguments R l m a h i err err' f f' same tied oe oe' of of' be bf k k' = bf R (within_refl R) _ _ _ _ _ tt tied k k'
+    all_both (an_argument (passed e) rest) R l m a h i err err' f f' same tied oe oe' of of' be bf k k' =
         eval_both e R l m a h i _ _ same tied
         (outcome_opens s err _ oe (λ a v h. all_begin un types C s rest l a h err _ oe (λ a vs h. of a (v ∷ vs) h)))
         (outcome_opens t err' _ oe' (λ a v h. all_begin un types D t rest m a h err' _ oe' (λ a vs h. of' a (v ∷ vs) h)))
         (outcome_both Z R err err' _ _ be (λ S w a v v' h i vv tied. all_both rest S l m a h i err err' _ _ (locals_wider R S w l m same) tied oe oe' (λ a vs h. of a (v ∷ vs) h) (λ a vs h. of' a (v' ∷ vs) h) (err_within Z R S w err err' be)
         (λ T w' a vs ws h i vw tied. bf T (within_on w w') a (v ∷ vs) (v' ∷ ws) h i (value_wider S T w' v v' vv, vw) tied))) k k'
+    all_both (an_argument (erased parts) rest) R l m a h i err err' f f' same tied oe oe' of of' be bf k k' =
+        passes_both parts R l m a h i err err' _ _ same tied oe oe'
+        (λ a h. all_begin un types C s rest l a h err f oe of) (λ a h. all_begin un types D t rest m a h err' f' oe' of') be
+        (λ S w a h i tied. all_both rest S l m a h i err err' f f' (locals_wider R S w l m same) tied oe oe' of of' (err_within Z R S w err err' be)
+        (λ T w' a vs ws h i vw tied. bf T (within_on w w') a vs ws h i vw tied)) k k'
 
     pub passes_both : (es : Expressions) (R : Renaming) (l m : Locals) (a : List Event) (h i : HeapMap) (err err' : List Event → Halt → Site → HeapMap → Type 0) (f f' : List Event → HeapMap → Type 0) →
         SameLocals R l m → Tied R h i → OpensErr s err → OpensErr t err' → OpensOn s f → OpensOn t f' → BothErr Z R err err' → BothOn Z R f f' →

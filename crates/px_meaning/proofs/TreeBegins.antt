@@ -13,7 +13,7 @@ use Rattle.px_meaning.specs.Execution.{Locals, with_local}
 use Rattle.px_meaning.specs.Events.{Event}
 use Rattle.px_meaning.specs.Operations.{value_at, result_of, on_words}
 use Rattle.px_meaning.specs.Steps.{ProcedureCalls, marking, live_block, freed_block}
-use Rattle.px_syntax.specs.TypedTree.{Expression, constant, null, local, negated, arithmetic, truth, cell, allocate, get_char, call, stop, Expressions, no_expressions, an_expression, Condition, compare, word, pointer, both, either, opposite, Place, local_place, cell_place, Statement, block, declare, assign, update, run_call, free, input, choose, loop, break, continue, return, evaluate, Statements, no_statements, a_statement}
+use Rattle.px_syntax.specs.TypedTree.{Expression, constant, null, local, negated, arithmetic, truth, cell, allocate, get_char, call, stop, Expressions, no_expressions, an_expression, Arguments, no_arguments, an_argument, passed, erased, Condition, compare, word, pointer, both, either, opposite, Place, local_place, cell_place, Statement, block, declare, assign, update, run_call, free, input, choose, loop, break, continue, return, evaluate, Statements, no_statements, a_statement}
 use Rattle.px_syntax.specs.declared.typed_expression.Arithmetic.{Arithmetic}
 use Rattle.px_meaning.specs.TreeExecution.{gives, errs, Outcomes, with_value, by_outcome, yes, no, fault, Verdicts, with_verdict, Exit, falls, breaks, continues, returns, fails, Exits, with_fall, behind_body, Uses, Loads, calculation, Calculates, Reaches, Stores, Returns, CallsProcedure, Branches, Evaluates, EvaluatesAll, PassesAll, Tests, failing, Takes, Declares, Assigns, Updates, Frees, TestsIf, Loops, GivesBack, Executes, ExecutesAll}
 use Rattle.px_meaning.proofs.Taken.{some_to, pointer_to, written_to}
@@ -132,11 +132,13 @@ module _ {E : Type 0} (seen : Event → E) (types : List BlockType) (C : Procedu
     eval_begins (stop number site es) l so_far heap K o h =
         passes_begin es l so_far heap _ _ (λ a kind at h. o a (errs kind at) h) (λ a h. o a (errs (outside number) site) h) h
 
-    pub all_begin : (es : Expressions) (l : Locals) (so_far : List E) (heap : HeapMap) (err : List E → Halt → Site → HeapMap → Type 0) (on : List E → List Value → HeapMap → Type 0) →
+    pub all_begin : (es : Arguments) (l : Locals) (so_far : List E) (heap : HeapMap) (err : List E → Halt → Site → HeapMap → Type 0) (on : List E → List Value → HeapMap → Type 0) →
         OpensErr t err → Opens t on → EvaluatesAll seen types C es l so_far heap err on → Begins t so_far
-    all_begin no_expressions l so_far heap err on o g h = g _ _ _ h
-    all_begin (an_expression e rest) l so_far heap err on o g h =
+    all_begin no_arguments l so_far heap err on o g h = g _ _ _ h
+    all_begin (an_argument (passed e) rest) l so_far heap err on o g h =
         eval_begins e l so_far heap _ (outcome_opens t err _ o (λ a v h. all_begin rest l a h err _ o (λ a vs h. g a _ h))) h
+    all_begin (an_argument (erased parts) rest) l so_far heap err on o g h =
+        passes_begin parts l so_far heap err _ o (λ a h. all_begin rest l a h err on o g) h
 
     pub passes_begin : (es : Expressions) (l : Locals) (so_far : List E) (heap : HeapMap) (err : List E → Halt → Site → HeapMap → Type 0) (on : List E → HeapMap → Type 0) →
         OpensErr t err → OpensOn t on → PassesAll seen types C es l so_far heap err on → Begins t so_far

@@ -18,7 +18,7 @@ use Rattle.px_meaning.specs.Events.{Event, reads, makes, mark_of}
 use Rattle.px_meaning.specs.Operations.{value_at, result_of, on_words}
 use Rattle.px_meaning.specs.Steps.{ProcedureCalls, marking, by_state, by_pointer, by_written, live_block, freed_block}
 use Rattle.px_meaning.specs.TypedProgram.{TypedProgram}
-use Rattle.px_syntax.specs.TypedTree.{Expression, constant, null, local, negated, arithmetic, truth, cell, allocate, get_char, call, stop, Expressions, no_expressions, an_expression, Condition, compare, word, pointer, both, either, opposite, Place, local_place, cell_place, Statement, block, declare, assign, update, run_call, free, input, choose, loop, break, continue, return, evaluate, Statements, no_statements, a_statement}
+use Rattle.px_syntax.specs.TypedTree.{Expression, constant, null, local, negated, arithmetic, truth, cell, allocate, get_char, call, stop, Expressions, no_expressions, an_expression, Arguments, no_arguments, an_argument, passed, erased, Condition, compare, word, pointer, both, either, opposite, Place, local_place, cell_place, Statement, block, declare, assign, update, run_call, free, input, choose, loop, break, continue, return, evaluate, Statements, no_statements, a_statement}
 use Rattle.px_syntax.specs.declared.typed_expression.Arithmetic.{Arithmetic}
 use Rattle.px_meaning.specs.TreeExecution.{gives, errs, Outcomes, with_value, by_outcome, yes, no, fault, Verdicts, with_verdict, Exit, falls, breaks, continues, returns, fails, Exits, with_fall, behind_body, Uses, Loads, calculation, Calculates, Reaches, Stores, Returns, CallsProcedure, Branches, Evaluates, EvaluatesAll, PassesAll, Tests, failing, Takes, Declares, Assigns, Updates, Frees, TestsIf, Loops, GivesBack, Executes, ExecutesAll}
 use Rattle.px_meaning.specs.TreeCalls.{first_locals, closes, TreeCallsWithin, SeenTreeCalls}
@@ -190,11 +190,13 @@ module _ (X : Type 0) where
       eval_to (stop number site es) l a b heap K L s o h =
           passes_to es l a b heap _ _ _ _ s (λ a b kind at h s. o a b (errs kind at) h s) (λ a b h s. o a b (errs (outside number) site) h s) h
 
-      all_to : (es : Expressions) (l : Locals) (a : List Mark) (b : List Event) (heap : HeapMap) (err : List Mark → Halt → Site → HeapMap → Type 0) (err' : X → List Event → Halt → Site → HeapMap → Type 0) (f : List Mark → List Value → HeapMap → Type 0) (g : X → List Event → List Value → HeapMap → Type 0) →
+      all_to : (es : Arguments) (l : Locals) (a : List Mark) (b : List Event) (heap : HeapMap) (err : List Mark → Halt → Site → HeapMap → Type 0) (err' : X → List Event → Halt → Site → HeapMap → Type 0) (f : List Mark → List Value → HeapMap → Type 0) (g : X → List Event → List Value → HeapMap → Type 0) →
           Same a b → ToErr err err' → To f g → EvaluatesAll mark_of types C es l a heap err f → (z : X) × EvaluatesAll see types D es l b heap (err' z) (g z)
-      all_to no_expressions l a b heap err err' f g s oe o h = o _ _ _ _ s h
-      all_to (an_expression e rest) l a b heap err err' f g s oe o h =
+      all_to no_arguments l a b heap err err' f g s oe o h = o _ _ _ _ s h
+      all_to (an_argument (passed e) rest) l a b heap err err' f g s oe o h =
           eval_to e l a b heap _ _ s (outcome_to err err' _ _ oe (λ a b v h s. all_to rest l a b h err err' _ _ s oe (λ a b vs h s. o a b (v ∷ vs) h s))) h
+      all_to (an_argument (erased parts) rest) l a b heap err err' f g s oe o h =
+          passes_to parts l a b heap err err' _ _ s oe (λ a b h s. all_to rest l a b h err err' f g s oe o) h
 
       passes_to : (es : Expressions) (l : Locals) (a : List Mark) (b : List Event) (heap : HeapMap) (err : List Mark → Halt → Site → HeapMap → Type 0) (err' : X → List Event → Halt → Site → HeapMap → Type 0) (f : List Mark → HeapMap → Type 0) (g : X → List Event → HeapMap → Type 0) →
           Same a b → ToErr err err' → ToOn f g → PassesAll mark_of types C es l a heap err f → (z : X) × PassesAll see types D es l b heap (err' z) (g z)

@@ -14,7 +14,7 @@ use Rattle.px_meaning.specs.Events.{Event}
 use Rattle.px_meaning.specs.Operations.{value_at, result_of, on_words}
 use Rattle.px_meaning.specs.Steps.{ProcedureCalls, marking, new_block, live_block, freed_block}
 use Rattle.px_meaning.specs.TypedProgram.{TypedProgram}
-use Rattle.px_syntax.specs.TypedTree.{Expression, constant, null, local, negated, arithmetic, truth, cell, allocate, get_char, call, stop, Expressions, no_expressions, an_expression, Condition, compare, word, pointer, both, either, opposite, Place, local_place, cell_place, Statement, block, declare, assign, update, run_call, free, input, choose, loop, break, continue, return, evaluate, Statements, no_statements, a_statement}
+use Rattle.px_syntax.specs.TypedTree.{Expression, constant, null, local, negated, arithmetic, truth, cell, allocate, get_char, call, stop, Expressions, no_expressions, an_expression, Arguments, no_arguments, an_argument, passed, erased, Condition, compare, word, pointer, both, either, opposite, Place, local_place, cell_place, Statement, block, declare, assign, update, run_call, free, input, choose, loop, break, continue, return, evaluate, Statements, no_statements, a_statement}
 use Rattle.px_syntax.specs.declared.typed_expression.Arithmetic.{Arithmetic}
 use Rattle.px_meaning.specs.TreeExecution.{gives, errs, Outcomes, with_value, by_outcome, yes, no, fault, Verdicts, with_verdict, Exit, falls, breaks, continues, returns, fails, Exits, with_fall, behind_body, Uses, Loads, calculation, Calculates, Reaches, Stores, Returns, CallsProcedure, Branches, Evaluates, EvaluatesAll, PassesAll, Tests, failing, Takes, Declares, Assigns, Updates, Frees, TestsIf, Loops, GivesBack, Executes, ExecutesAll}
 use Rattle.px_meaning.specs.TreeCalls.{first_locals, closes, TreeCallsWithin, SeenTreeCalls}
@@ -133,11 +133,13 @@ module _ {E : Type 0} (seen : Event → E) (types : List BlockType) (calls : Pro
     eval_leads (stop number site es) l a heap K o h =
         passes_lead es l a heap _ _ (λ a kind at h w. o a (errs kind at) h w) (λ a h w. o a (errs (outside number) site) h w) h
 
-    all_lead : (es : Expressions) (l : Locals) (a : List E) (heap : HeapMap) (err : List E → Halt → Site → HeapMap → Type 0) (on : List E → List Value → HeapMap → Type 0) → LeadsErr heap err → Leads heap on →
+    all_lead : (es : Arguments) (l : Locals) (a : List E) (heap : HeapMap) (err : List E → Halt → Site → HeapMap → Type 0) (on : List E → List Value → HeapMap → Type 0) → LeadsErr heap err → Leads heap on →
         EvaluatesAll seen types calls es l a heap err on → Z
-    all_lead no_expressions l a heap err on oe o h = o _ _ _ (grows_refl heap) h
-    all_lead (an_expression e rest) l a heap err on oe o h =
+    all_lead no_arguments l a heap err on oe o h = o _ _ _ (grows_refl heap) h
+    all_lead (an_argument (passed e) rest) l a heap err on oe o h =
         eval_leads e l a heap _ (outcome_leads heap err _ oe (λ a v h w. all_lead rest l a h err _ (λ a kind at i g. oe a kind at i (grows_trans w g)) (λ a vs i g. o a (v ∷ vs) i (grows_trans w g)))) h
+    all_lead (an_argument (erased parts) rest) l a heap err on oe o h =
+        passes_lead parts l a heap err _ oe (λ a h w. all_lead rest l a h err on (λ a kind at i g. oe a kind at i (grows_trans w g)) (λ a vs i g. o a vs i (grows_trans w g))) h
 
     passes_lead : (es : Expressions) (l : Locals) (a : List E) (heap : HeapMap) (err : List E → Halt → Site → HeapMap → Type 0) (on : List E → HeapMap → Type 0) → LeadsErr heap err → LeadsOn heap on →
         PassesAll seen types calls es l a heap err on → Z

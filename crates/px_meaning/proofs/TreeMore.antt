@@ -14,7 +14,7 @@ use Rattle.px_meaning.specs.Events.{Event}
 use Rattle.px_meaning.specs.Operations.{value_at, result_of, on_words}
 use Rattle.px_meaning.specs.Steps.{ProcedureCalls, marking, live_block, freed_block, Allows}
 use Rattle.px_meaning.specs.TypedProgram.{TypedProgram}
-use Rattle.px_syntax.specs.TypedTree.{Expression, constant, null, local, negated, arithmetic, truth, cell, allocate, get_char, call, stop, Expressions, no_expressions, an_expression, Condition, compare, word, pointer, both, either, opposite, Place, local_place, cell_place, Statement, block, declare, assign, update, run_call, free, input, choose, loop, break, continue, return, evaluate, Statements, no_statements, a_statement}
+use Rattle.px_syntax.specs.TypedTree.{Expression, constant, null, local, negated, arithmetic, truth, cell, allocate, get_char, call, stop, Expressions, no_expressions, an_expression, Arguments, no_arguments, an_argument, passed, erased, Condition, compare, word, pointer, both, either, opposite, Place, local_place, cell_place, Statement, block, declare, assign, update, run_call, free, input, choose, loop, break, continue, return, evaluate, Statements, no_statements, a_statement}
 use Rattle.px_syntax.specs.declared.typed_expression.Arithmetic.{Arithmetic}
 use Rattle.px_meaning.specs.TreeExecution.{gives, errs, Outcomes, with_value, by_outcome, yes, no, fault, Verdicts, with_verdict, Exit, falls, breaks, continues, returns, fails, Exits, with_fall, behind_body, Uses, Loads, calculation, Calculates, Reaches, Stores, Returns, CallsProcedure, Branches, Evaluates, EvaluatesAll, PassesAll, Tests, failing, Takes, Declares, Assigns, Updates, Frees, TestsIf, Loops, GivesBack, Executes, ExecutesAll}
 use Rattle.px_meaning.specs.TreeCalls.{first_locals, closes, TreeCallsWithin, SeenTreeCalls}
@@ -132,11 +132,13 @@ module _ {E : Type 0} (seen : Event → E) (types : List BlockType) (C D : Proce
     eval_more (stop number site es) l so_far heap K L o h =
         passes_more es l so_far heap _ _ _ _ (λ a kind at h. o a (errs kind at) h) (λ a h. o a (errs (outside number) site) h) h
 
-    all_more : (es : Expressions) (l : Locals) (so_far : List E) (heap : HeapMap) (err err' : List E → Halt → Site → HeapMap → Type 0) (f g : List E → List Value → HeapMap → Type 0) → MoreErr err err' → More f g →
+    all_more : (es : Arguments) (l : Locals) (so_far : List E) (heap : HeapMap) (err err' : List E → Halt → Site → HeapMap → Type 0) (f g : List E → List Value → HeapMap → Type 0) → MoreErr err err' → More f g →
         EvaluatesAll seen types C es l so_far heap err f → EvaluatesAll seen types D es l so_far heap err' g
-    all_more no_expressions l so_far heap err err' f g oe o h = o _ _ _ h
-    all_more (an_expression e rest) l so_far heap err err' f g oe o h =
+    all_more no_arguments l so_far heap err err' f g oe o h = o _ _ _ h
+    all_more (an_argument (passed e) rest) l so_far heap err err' f g oe o h =
         eval_more e l so_far heap _ _ (outcome_more err err' _ _ oe (λ a v h. all_more rest l a h err err' _ _ oe (λ a vs h. o a (v ∷ vs) h))) h
+    all_more (an_argument (erased parts) rest) l so_far heap err err' f g oe o h =
+        passes_more parts l so_far heap err err' _ _ oe (λ a h. all_more rest l a h err err' f g oe o) h
 
     passes_more : (es : Expressions) (l : Locals) (so_far : List E) (heap : HeapMap) (err err' : List E → Halt → Site → HeapMap → Type 0) (f g : List E → HeapMap → Type 0) → MoreErr err err' → ((a : List E) (h : HeapMap) → f a h → g a h) →
         PassesAll seen types C es l so_far heap err f → PassesAll seen types D es l so_far heap err' g

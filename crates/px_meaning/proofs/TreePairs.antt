@@ -16,7 +16,7 @@ use Rattle.px_meaning.specs.Execution.{Locals}
 use Rattle.px_meaning.specs.Events.{Event, marks, reads, makes, mark}
 use Rattle.px_meaning.specs.Operations.{value_at, result_of, on_words}
 use Rattle.px_meaning.specs.Steps.{ProcedureCalls, marking, by_state, by_pointer, by_written, new_block}
-use Rattle.px_syntax.specs.TypedTree.{Expression, constant, null, local, negated, arithmetic, truth, cell, allocate, get_char, call, stop, Expressions, no_expressions, an_expression, Condition, compare, word, pointer, both, either, opposite}
+use Rattle.px_syntax.specs.TypedTree.{Expression, constant, null, local, negated, arithmetic, truth, cell, allocate, get_char, call, stop, Expressions, no_expressions, an_expression, Arguments, no_arguments, an_argument, passed, erased, Condition, compare, word, pointer, both, either, opposite}
 use Rattle.px_syntax.specs.declared.typed_expression.Arithmetic.{Arithmetic}
 use Rattle.px_meaning.specs.TreeExecution.{gives, errs, Outcomes, with_value, by_outcome, yes, no, fault, Verdicts, with_verdict, Uses, Loads, calculation, Calculates, Reaches, Returns, CallsProcedure, Branches, Evaluates, EvaluatesAll, PassesAll, Tests}
 use Rattle.px_meaning.proofs.Taken.{some_to}
@@ -211,15 +211,19 @@ module _ (types : List BlockType) (C D : ProcedureCalls Event) (agree : Agree C 
         passes_pair es l so_far heap _ _ _ _ (λ a kind at h. o a (errs kind at) h) (λ a kind at h. o' a (errs kind at) h)
         (λ a h. o a (errs (outside number) site) h) (λ a h. o' a (errs (outside number) site) h) (λ a kind at h. on a (errs kind at) h) (λ a h. on a (errs (outside number) site) h) h h'
 
-    pub all_pair : (es : Expressions) (l : Locals) (so_far : List Event) (heap : HeapMap) (err err' : List Event → Halt → Site → HeapMap → Type 0) (f f' : List Event → List Value → HeapMap → Type 0) →
+    pub all_pair : (es : Arguments) (l : Locals) (so_far : List Event) (heap : HeapMap) (err err' : List Event → Halt → Site → HeapMap → Type 0) (f f' : List Event → List Value → HeapMap → Type 0) →
         OpensErr s err → OpensErr t err' → Opens s f → Opens t f' → BothErr R err err' → Both R f f' →
         EvaluatesAll see types C es l so_far heap err f → EvaluatesAll see types D es l so_far heap err' f' → R
-    all_pair no_expressions l so_far heap err err' f f' oe oe' of of' be bf h h' = bf _ _ _ h h'
-    all_pair (an_expression e rest) l so_far heap err err' f f' oe oe' of of' be bf h h' =
+    all_pair no_arguments l so_far heap err err' f f' oe oe' of of' be bf h h' = bf _ _ _ h h'
+    all_pair (an_argument (passed e) rest) l so_far heap err err' f f' oe oe' of of' be bf h h' =
         eval_pair e l so_far heap _ _
         (outcome_opens s err _ oe (λ a v h. all_begin see types C s rest l a h err _ oe (λ a vs h. of a (v ∷ vs) h)))
         (outcome_opens t err' _ oe' (λ a v h. all_begin see types D t rest l a h err' _ oe' (λ a vs h. of' a (v ∷ vs) h)))
         (outcome_both R err err' _ _ be (λ a v h. all_pair rest l a h err err' _ _ oe oe' (λ a vs h. of a (v ∷ vs) h) (λ a vs h. of' a (v ∷ vs) h) be (λ a vs h. bf a (v ∷ vs) h))) h h'
+    all_pair (an_argument (erased parts) rest) l so_far heap err err' f f' oe oe' of of' be bf h h' =
+        passes_pair parts l so_far heap err err' _ _ oe oe'
+        (λ a h. all_begin see types C s rest l a h err f oe of) (λ a h. all_begin see types D t rest l a h err' f' oe' of') be
+        (λ a h. all_pair rest l a h err err' f f' oe oe' of of' be bf) h h'
 
     pub passes_pair : (es : Expressions) (l : Locals) (so_far : List Event) (heap : HeapMap) (err err' : List Event → Halt → Site → HeapMap → Type 0) (f f' : List Event → HeapMap → Type 0) →
         OpensErr s err → OpensErr t err' → OpensOn s f → OpensOn t f' → BothErr R err err' → BothOn R f f' →

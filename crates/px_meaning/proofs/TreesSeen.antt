@@ -10,13 +10,15 @@ use Rattle.px_syntax.specs.declared.typed_expression.Arithmetic.{Arithmetic}
 use Rattle.px_syntax.specs.declared.typed_expression.Relation.{Relation}
 use Rattle.px_syntax.specs.declared.typed_expression.ArithmeticLink.{ArithmeticLink}
 use Rattle.px_syntax.specs.declared.typed_expression.RelationLink.{RelationLink}
+use Rattle.px_syntax.specs.declared.typed_expression.Argument.{Argument}
+use Rattle.px_syntax.specs.declared.typed_expression.Argument.TheVariants as A
 use Rattle.px_syntax.specs.declared.typed_expression.TypedExpression.{TypedExpression}
 use Rattle.px_syntax.specs.declared.typed_expression.TypedExpression.TheVariants as E
 use Rattle.px_syntax.specs.declared.typed_expression.Condition.{Condition}
 use Rattle.px_syntax.specs.declared.typed_expression.Condition.TheVariants as C
-use Rattle.px_syntax.specs.TypedTree.{arithmetic, cell, call, stop, compare, both, either, expressions_of}
-use Rattle.px_syntax.specs.TypedViews.{typed_expression, typed_condition, arithmetic_link, relation_link, calculated, compared, cells, all_of, any_of}
-use Rattle.px_syntax.proofs.TypedEquations.{typed-Arithmetic, typed-Cell, typed-Call, typed-Stop, typed-Compare, typed-And, typed-Or}
+use Rattle.px_syntax.specs.TypedTree.{arithmetic, cell, call, erased, stop, compare, both, either, expressions_of, arguments_of}
+use Rattle.px_syntax.specs.TypedViews.{typed_expression, typed_argument, typed_condition, arithmetic_link, relation_link, calculated, compared, cells, all_of, any_of}
+use Rattle.px_syntax.proofs.TypedEquations.{typed-Arithmetic, typed-Cell, typed-Call, typed-Erased, typed-Stop, typed-Compare, typed-And, typed-Or}
 
 pub arithmetic_seen : (e f r : TypedExpression) (links : List ArithmeticLink) (first : Box TypedExpression Global) (before : Vec ArithmeticLink Global) (op : Arithmetic) (right : Box TypedExpression Global) →
     e ≡ E.Arithmetic first before op right → f ≡ first.value → links ≡ before.items → r ≡ right.value →
@@ -25,10 +27,13 @@ arithmetic_seen e f r links first before op right is is_f is_links is_r =
     ap typed_expression is ∙ (typed-Arithmetic first before op right
     ∙ sym (ap₂ (λ a b. arithmetic op a (typed_expression b)) (ap₂ (λ a ls. calculated (typed_expression a) (map arithmetic_link ls)) is_f is_links) is_r))
 
-pub call_seen : (e : TypedExpression) (es : List TypedExpression) (proc : ProcId) (arguments : Vec TypedExpression Global) (type : ValueType) (site : Site) →
-    e ≡ E.Call proc arguments type site → es ≡ arguments.items → typed_expression e ≡ call proc (expressions_of (map typed_expression es)) type site
+pub call_seen : (e : TypedExpression) (es : List Argument) (proc : ProcId) (arguments : Vec Argument Global) (type : ValueType) (site : Site) →
+    e ≡ E.Call proc arguments type site → es ≡ arguments.items → typed_expression e ≡ call proc (arguments_of (map typed_argument es)) type site
 call_seen e es proc arguments type site is is_es =
-    ap typed_expression is ∙ (typed-Call proc arguments type site ∙ sym (ap (λ ls. call proc (expressions_of (map typed_expression ls)) type site) is_es))
+    ap typed_expression is ∙ (typed-Call proc arguments type site ∙ sym (ap (λ ls. call proc (arguments_of (map typed_argument ls)) type site) is_es))
+
+pub erased_seen : (a : Argument) (es : List TypedExpression) (row : Vec TypedExpression Global) → a ≡ A.Erased row → es ≡ row.items → typed_argument a ≡ erased (expressions_of (map typed_expression es))
+erased_seen a es row is is_es = ap typed_argument is ∙ (typed-Erased row ∙ sym (ap (λ ls. erased (expressions_of (map typed_expression ls))) is_es))
 
 pub compare_seen : (c : Condition) (f r : TypedExpression) (links : List RelationLink) (first : Box TypedExpression Global) (before : Vec RelationLink Global) (relation : Relation) (right : Box TypedExpression Global) (site : Site) →
     c ≡ C.Compare first before relation right site → f ≡ first.value → links ≡ before.items → r ≡ right.value →

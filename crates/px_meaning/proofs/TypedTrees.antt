@@ -16,7 +16,7 @@ use Rattle.px_syntax.specs.declared.typed_expression.Arithmetic.{Arithmetic}
 use Rattle.px_syntax.specs.declared.typed_expression.Arithmetic.TheVariants.{Add, Subtract, Multiply, Divide, Remainder}
 use Rattle.px_syntax.specs.declared.typed_expression.Relation.{Relation}
 use Rattle.px_syntax.specs.declared.typed_expression.Relation.TheVariants as relation
-use Rattle.px_syntax.specs.TypedTree.{Expression, constant, null, local, negated, arithmetic, truth, cell, allocate, get_char, call, stop, Expressions, no_expressions, an_expression, Condition, compare, word, pointer, both, either, opposite, Place, local_place, cell_place, Statement, block, declare, assign, update, run_call, free, input, choose, loop, break, continue, return, evaluate, Statements, no_statements, a_statement}
+use Rattle.px_syntax.specs.TypedTree.{Expression, constant, null, local, negated, arithmetic, truth, cell, allocate, get_char, call, stop, Expressions, no_expressions, an_expression, Arguments, no_arguments, an_argument, passed, erased, Condition, compare, word, pointer, both, either, opposite, Place, local_place, cell_place, Statement, block, declare, assign, update, run_call, free, input, choose, loop, break, continue, return, evaluate, Statements, no_statements, a_statement}
 use Rattle.px_syntax.specs.ProgramTree.{ProcedureTree}
 use Rattle.px_meaning.specs.Values.{TypeId, ValueType, Int, Pointer, BlockType, One, Fields, Opaque, Value, Word, Null, Block, Unwritten}
 use Rattle.px_meaning.specs.Heaps.{HeapMap, HeapBlock, Live, Freed, with_block, IsWritten, AreWritten, IsCell, IsWellTyped}
@@ -302,15 +302,19 @@ module _ {E : Type 0} (seen : Event → E) (P : TypedProgram) (calls : Procedure
     eval_typed (stop number site es) t l a heap K p y s o h =
         passes_typed es l a heap _ _ p y s (λ a kind at h w y. o a (errs kind at) h w y tt) (λ a h w y. o a (errs (outside number) site) h w y tt) h
 
-    all_typed : (es : Expressions) (ts : List ValueType) (l : Locals) (a : List E) (heap : HeapMap) (err : List E → Halt → Site → HeapMap → Type 0) (on : List E → List Value → HeapMap → Type 0) → AreOf P locals ts es → Well heap → AreLocals locals heap l →
+    all_typed : (es : Arguments) (ts : List ValueType) (l : Locals) (a : List E) (heap : HeapMap) (err : List E → Halt → Site → HeapMap → Type 0) (on : List E → List Value → HeapMap → Type 0) → AreOf P locals ts es → Well heap → AreLocals locals heap l →
         LeadsErr heap err → ((a : List E) (vs : List Value) (h : HeapMap) → Grows heap h → Well h → AreWritten h ts vs → on a vs h → Z) → EvaluatesAll seen P.types calls es l a heap err on → Z
-    all_typed no_expressions [] l a heap err on p y s oe o h = o _ _ _ (grows_refl heap) y tt h
-    all_typed (an_expression e rest) (t ∷ ts) l a heap err on p y s oe o h =
+    all_typed no_arguments [] l a heap err on p y s oe o h = o _ _ _ (grows_refl heap) y tt h
+    all_typed (an_argument (passed e) rest) (t ∷ ts) l a heap err on p y s oe o h =
         eval_typed e t l a heap _ p.0 y s (outcome_leads heap t err _ oe (λ a v h w y q.
         all_typed rest ts l a h err _ p.1 y (locals_grow w locals l s) (λ a kind at i g y. oe a kind at i (grows_trans w g) y)
         (λ a vs i g y ws. o a (v ∷ vs) i (grows_trans w g) y (written_grows g t v q, ws)))) h
-    all_typed no_expressions (t ∷ ts) l a heap err on p y s oe o h = absurd p
-    all_typed (an_expression e rest) [] l a heap err on p y s oe o h = absurd p
+    all_typed no_arguments (t ∷ ts) l a heap err on p y s oe o h = absurd p
+    all_typed (an_argument (passed e) rest) [] l a heap err on p y s oe o h = absurd p
+    all_typed (an_argument (erased parts) rest) ts l a heap err on p y s oe o h =
+        passes_typed parts l a heap err _ p.0 y s oe (λ a h w y.
+        all_typed rest ts l a h err on p.1 y (locals_grow w locals l s) (λ a kind at i g y. oe a kind at i (grows_trans w g) y)
+        (λ a vs i g y ws. o a vs i (grows_trans w g) y ws)) h
 
     passes_typed : (es : Expressions) (l : Locals) (a : List E) (heap : HeapMap) (err : List E → Halt → Site → HeapMap → Type 0) (on : List E → HeapMap → Type 0) → ArePassed P locals es → Well heap → AreLocals locals heap l →
         LeadsErr heap err → LeadsOn heap on → PassesAll seen P.types calls es l a heap err on → Z

@@ -1,16 +1,16 @@
 -- The executions of the worked programs, as typed trees.
 use Rattle.std.proofs.Common.{[], ◌∷◌, ◌++◌, refl, inl, inr, pos, arith}
-use Rattle.px_base.specs.declared.trace.MarkKind.TheVariants.{Got, Else, Freed, Access, Enter}
+use Rattle.px_base.specs.declared.trace.MarkKind.TheVariants.{Got, Else, Input, Freed, Access, Enter, Leave}
 use Rattle.px_base.specs.declared.trace.Kind.TheVariants.{UseAfterFree, DoubleFree}
-use Rattle.px_meaning.specs.Values.{One, Int}
+use Rattle.px_meaning.specs.Values.{One, Int, Word}
 use Rattle.px_meaning.specs.Heaps.{HeapMap}
-use Rattle.px_meaning.specs.Calls.{error, Failed}
+use Rattle.px_meaning.specs.Calls.{error, Returned, Failed}
 use Rattle.px_meaning.specs.Manifest.{Bug, IsManifest}
 use Rattle.px_meaning.specs.Events.{mark}
 use Rattle.px_meaning.specs.TypedProgram.{TypedProgram}
 use Rattle.px_meaning.specs.TreeCalls.{TreeCalls, BoundedTreeCalls}
 use Rattle.px_meaning.specs.WorkedBodies.{at, empty_heap, unchecked_bug, wraps_bug, reads_input_bug, unset_local_bug, until_freed, two_turns}
-use Rattle.px_meaning.specs.WorkedTrees.{unchecked_tree, freed_too_early_tree, freed_by_callee_program, wraps_tree, reads_input_tree, freed_in_loop_tree, unset_local_tree}
+use Rattle.px_meaning.specs.WorkedTrees.{unchecked_tree, freed_too_early_tree, freed_by_callee_program, wraps_tree, reads_input_tree, freed_in_loop_tree, unset_local_tree, erased_access_program, erased_access_bug, around_passed_program}
 use Rattle.px_meaning.proofs.Worked.{below, ten_low, ten_high, less_0, less_1}
 
 without : (P : TypedProgram) (bug : Bug) → ((heap : HeapMap) → (heap' : HeapMap) × TreeCalls P 0 [] heap bug.trace (Failed (error bug.kind) bug.site) heap') →
@@ -76,5 +76,19 @@ in_loop_fails = (
       ),
     ),
     omega arith,
+  ),
+)
+
+pub erased_access_fails : IsManifest (TreeCalls erased_access_program 1) (One Int ∷ []) [] erased_access_bug
+erased_access_fails [] heap state = (heap, (9, (refl, refl, refl)))
+erased_access_fails (a ∷ rest) heap state = absurd state.written
+
+pub around_passed_returns : (end : HeapMap) × TreeCalls around_passed_program 1 [] empty_heap
+    (mark Input (at 2 27) ∷ mark Input (at 2 41) ∷ mark (Enter (record { 0 = 0 })) (at 2 22) ∷ mark Leave (at 2 22) ∷ []) (Returned (Word (pos 7))) end
+around_passed_returns = (
+  _,
+  (
+    9,
+    (pos 10, ten_low, ten_high, (pos 10, ten_low, ten_high, ([], Returned (Word (pos 7)), _, (refl, refl, refl), (refl, refl, refl)))),
   ),
 )

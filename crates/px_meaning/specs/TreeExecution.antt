@@ -21,7 +21,7 @@ use Rattle.px_syntax.specs.declared.typed_expression.Arithmetic.{Arithmetic}
 use Rattle.px_syntax.specs.declared.typed_expression.Arithmetic.TheVariants.{Add, Subtract, Multiply, Divide, Remainder}
 use Rattle.px_syntax.specs.declared.typed_expression.Relation.{Relation}
 use Rattle.px_syntax.specs.declared.typed_expression.Relation.TheVariants as relation
-use Rattle.px_syntax.specs.TypedTree.{Expression, constant, null, local, negated, arithmetic, truth, cell, allocate, get_char, call, stop, Expressions, no_expressions, an_expression, Condition, compare, word, pointer, both, either, opposite, Place, local_place, cell_place, Statement, block, declare, assign, update, run_call, free, input, choose, loop, break, continue, return, evaluate, Statements, no_statements, a_statement}
+use Rattle.px_syntax.specs.TypedTree.{Expression, constant, null, local, negated, arithmetic, truth, cell, allocate, get_char, call, stop, Expressions, no_expressions, an_expression, Arguments, no_arguments, an_argument, passed, erased, Condition, compare, word, pointer, both, either, opposite, Place, local_place, cell_place, Statement, block, declare, assign, update, run_call, free, input, choose, loop, break, continue, return, evaluate, Statements, no_statements, a_statement}
 
 -- ---- outcomes and exits
 
@@ -181,11 +181,13 @@ module _ {E : Type 0} (seen : Event → E) (types : List BlockType) (calls : Pro
     Evaluates (stop number site parts) locals so_far heap K =
         PassesAll parts locals so_far heap (λ so_far halt at heap. K so_far (errs halt at) heap) (λ so_far heap. K so_far (errs (outside number) site) heap)
 
-    -- each in order; `on` has their values
-    pub EvaluatesAll : Expressions → Locals → List E → HeapMap → (List E → Halt → Site → HeapMap → Type 0) → (List E → List Value → HeapMap → Type 0) → Type 0
-    EvaluatesAll no_expressions locals so_far heap err on = on so_far [] heap
-    EvaluatesAll (an_expression e rest) locals so_far heap err on =
+    -- each in order; `on` has the values that are passed
+    pub EvaluatesAll : Arguments → Locals → List E → HeapMap → (List E → Halt → Site → HeapMap → Type 0) → (List E → List Value → HeapMap → Type 0) → Type 0
+    EvaluatesAll no_arguments locals so_far heap err on = on so_far [] heap
+    EvaluatesAll (an_argument (passed e) rest) locals so_far heap err on =
         Evaluates e locals so_far heap (by_outcome err (λ so_far v heap. EvaluatesAll rest locals so_far heap err (λ so_far vs heap. on so_far (v ∷ vs) heap)))
+    EvaluatesAll (an_argument (erased parts) rest) locals so_far heap err on =
+        PassesAll parts locals so_far heap err (λ so_far heap. EvaluatesAll rest locals so_far heap err on)
 
     -- each in order, for its effects: its value isn't read, those below it are
     pub PassesAll : Expressions → Locals → List E → HeapMap → (List E → Halt → Site → HeapMap → Type 0) → (List E → HeapMap → Type 0) → Type 0

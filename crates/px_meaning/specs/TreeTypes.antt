@@ -4,7 +4,7 @@ use Rattle.std.specs.Prelude.{◌≡◌, ℕ, Bool, true, false, IsTrue, List, [
 use Rattle.std.specs.Int.{w32}
 use Rattle.px_base.specs.declared.trace.FieldId.{FieldId}
 use Rattle.px_syntax.specs.declared.typed_expression.Relation.TheVariants as relation
-use Rattle.px_syntax.specs.TypedTree.{Expression, constant, null, local, negated, arithmetic, truth, cell, allocate, get_char, call, stop, Expressions, no_expressions, an_expression, Condition, compare, word, pointer, both, either, opposite, Place, local_place, cell_place, Statement, block, declare, assign, update, run_call, free, input, choose, loop, break, continue, return, evaluate, Statements, no_statements, a_statement}
+use Rattle.px_syntax.specs.TypedTree.{Expression, constant, null, local, negated, arithmetic, truth, cell, allocate, get_char, call, stop, Expressions, no_expressions, an_expression, Arguments, no_arguments, an_argument, passed, erased, Condition, compare, word, pointer, both, either, opposite, Place, local_place, cell_place, Statement, block, declare, assign, update, run_call, free, input, choose, loop, break, continue, return, evaluate, Statements, no_statements, a_statement}
 use Rattle.px_syntax.specs.ProgramTree.{ProcedureTree}
 use Rattle.px_terms.specs.Types.{types_of}
 use Rattle.px_meaning.specs.Values.{TypeId, ValueType, Int, Pointer, BlockType, One, Fields, Opaque}
@@ -47,12 +47,13 @@ module _ (P : TypedProgram) (locals : LocalTypes) where
     IsOf t (call proc es result site) = (t ≡ result) × ((ts : List ValueType) × AreOf ts es × AgreesWith (P.procedures proc.0) ts (Some result))
     IsOf t (stop number site parts) = ArePassed parts
 
-    -- the expressions have values of these types, in order
-    pub AreOf : List ValueType → Expressions → Type 0
-    AreOf [] no_expressions = ⊤
-    AreOf (t ∷ ts) (an_expression e rest) = IsOf t e × AreOf ts rest
-    AreOf [] (an_expression e rest) = ⊥
-    AreOf (t ∷ ts) no_expressions = ⊥
+    -- the arguments that are passed have values of these types, in order
+    pub AreOf : List ValueType → Arguments → Type 0
+    AreOf ts (an_argument (erased parts) rest) = ArePassed parts × AreOf ts rest
+    AreOf [] no_arguments = ⊤
+    AreOf (t ∷ ts) (an_argument (passed e) rest) = IsOf t e × AreOf ts rest
+    AreOf [] (an_argument (passed e) rest) = ⊥
+    AreOf (t ∷ ts) no_arguments = ⊥
 
     -- the expressions keep the rules, where their values aren't read: a call may give none
     pub ArePassed : Expressions → Type 0

@@ -39,7 +39,7 @@ use Rattle.px_meaning.specs.Calls.{error, Failed}
 use Rattle.px_meaning.specs.Events.{mark}
 use Rattle.px_syntax.specs.ProgramTree.{ProcedureTree}
 use Rattle.px_meaning.specs.TypedProgram.{TypedProgram}
-use Rattle.px_syntax.specs.TypedTree.{constant, null, local, allocate, get_char, call, an_expression, no_expressions, compare, local_place, cell_place, block, declare, assign, update, run_call, free, choose, loop, return, statements_of}
+use Rattle.px_syntax.specs.TypedTree.{constant, null, local, allocate, get_char, call, passed, an_argument, no_arguments, compare, local_place, cell_place, block, declare, assign, update, run_call, free, choose, loop, return, statements_of}
 use Rattle.px_meaning.specs.TreeCalls.{TreeCalls}
 use Rattle.px_meaning.specs.WorkedBodies.{at, only_field, empty_heap}
 use Rattle.px_meaning.specs.WorkedTrees.{a_procedure, nothing, return_if_null}
@@ -72,11 +72,11 @@ main_procedure = a_procedure 2 16 [] (Some Int) (Pointer node ∷ Int ∷ [])
     (declare 0 (Some null) ∷ declare 1 None
     ∷ assign (local_place 1 (at 19 8)) (constant (pos 0))
     ∷ loop (at 19 3) (Some (compare relation.Less (local 1 (at 19 15)) (constant (pos 2)) (at 19 17)))
-    (block (statements_of (assign (local_place 0 (at 20 5)) (call push (an_expression (local 0 (at 20 17)) (an_expression (local 1 (at 20 23)) no_expressions)) (Pointer node) (at 20 12)) ∷ [])))
+    (block (statements_of (assign (local_place 0 (at 20 5)) (call push (an_argument (passed (local 0 (at 20 17))) (an_argument (passed (local 1 (at 20 23))) no_arguments)) (Pointer node) (at 20 12)) ∷ [])))
     (update Add (local_place 1 (at 19 22)) (constant (pos 1)))
-    ∷ run_call drop (an_expression (local 0 (at 22 8)) no_expressions) (at 22 3)
+    ∷ run_call drop (an_argument (passed (local 0 (at 22 8))) no_arguments) (at 22 3)
     ∷ choose (compare relation.Equal (get_char (at 23 7)) (constant (pos 10)) (at 23 17))
-    (run_call drop (an_expression (local 0 (at 23 29)) no_expressions) (at 23 24)) nothing
+    (run_call drop (an_argument (passed (local 0 (at 23 29))) no_arguments) (at 23 24)) nothing
     ∷ return (Some (constant (pos 0))) ∷ [])
 
 abbrev pub list_procedures : ℕ → Option ProcedureTree

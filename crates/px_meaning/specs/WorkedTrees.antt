@@ -1,18 +1,18 @@
 -- The small programs once more, as typed trees: they do what their bodies do.
 use Rattle.std.specs.Prelude.{ℕ, zero, suc, pos, List, [], ◌∷◌, ◌++◌, Option, Some, None, slice_get}
 use Rattle.px_base.specs.declared.trace.Site.{Site}
-use Rattle.px_base.specs.declared.trace.MarkKind.TheVariants.{Else, Got, Access, Freed, Enter}
-use Rattle.px_base.specs.declared.trace.Kind.TheVariants.{UseAfterFree, DoubleFree}
+use Rattle.px_base.specs.declared.trace.MarkKind.TheVariants.{Else, Got, Input, Access, Freed, Enter, Leave}
+use Rattle.px_base.specs.declared.trace.Kind.TheVariants.{NullDereference, UseAfterFree, DoubleFree}
 use Rattle.px_syntax.specs.declared.typed_expression.Arithmetic.TheVariants.{Add}
 use Rattle.px_syntax.specs.declared.typed_expression.Relation.TheVariants as relation
-use Rattle.px_meaning.specs.Values.{ValueType, Int, Pointer, One}
+use Rattle.px_meaning.specs.Values.{ValueType, Int, Pointer, One, Word}
 use Rattle.px_meaning.specs.Heaps.{HeapMap}
-use Rattle.px_meaning.specs.Calls.{error, Failed}
-use Rattle.px_meaning.specs.Manifest.{IsManifest}
+use Rattle.px_meaning.specs.Calls.{error, Returned, Failed}
+use Rattle.px_meaning.specs.Manifest.{Bug, IsManifest}
 use Rattle.px_meaning.specs.Events.{mark}
 use Rattle.px_syntax.specs.ProgramTree.{ProcedureTree}
 use Rattle.px_meaning.specs.TypedProgram.{TypedProgram}
-use Rattle.px_syntax.specs.TypedTree.{constant, null, local, arithmetic, allocate, get_char, an_expression, no_expressions, compare, local_place, cell_place, Statement, block, declare, assign, update, run_call, free, choose, loop, return, no_statements, statements_of}
+use Rattle.px_syntax.specs.TypedTree.{constant, null, local, arithmetic, cell, allocate, get_char, call, an_expression, no_expressions, passed, erased, an_argument, no_arguments, compare, local_place, cell_place, Statement, block, declare, assign, update, run_call, free, choose, loop, return, no_statements, statements_of}
 use Rattle.px_meaning.specs.TreeCalls.{TreeCalls, BoundedTreeCalls}
 use Rattle.px_meaning.specs.WorkedBodies.{at, int_block, only_field, empty_heap, unchecked_bug, wraps_bug, reads_input_bug, unset_local_bug, until_freed, two_turns}
 
@@ -62,7 +62,7 @@ abbrev pub freed_by_callee_trees : ℕ → Option ProcedureTree
 freed_by_callee_trees zero = Some (a_procedure 0 1 (int_pointer ∷ []) None []
     (free_local 0 (at 1 21) (at 1 16) ∷ free_local 0 (at 1 29) (at 1 24) ∷ []))
 freed_by_callee_trees (suc f) = Some (a_procedure 1 2 [] None (int_pointer ∷ []) (declare 0 (Some (allocate int_block (at 2 21))) ∷ return_if_null 0 (at 2 44) (at 2 45)
-    ∷ run_call (record { 0 = 0 }) (an_expression (local 0 (at 2 61)) no_expressions) (at 2 59) ∷ []))
+    ∷ run_call (record { 0 = 0 }) (an_argument (passed (local 0 (at 2 61))) no_arguments) (at 2 59) ∷ []))
 
 abbrev pub freed_by_callee_program : TypedProgram
 freed_by_callee_program = record { types = One Int ∷ []; procedures = freed_by_callee_trees }
@@ -85,6 +85,27 @@ freed_in_loop_tree = only_procedure (procedure (int_pointer ∷ Int ∷ []) (dec
 abbrev pub unset_local_tree : TypedProgram
 unset_local_tree = only_procedure (a_procedure 0 1 [] (Some Int) (Int ∷ []) (declare 0 None ∷ return (Some (local 0 (at 1 26))) ∷ []))
 
+-- `void log(long v, int n) { }` and `void f(void) { int *p = 0; log(*p, 1); }`: no long is passed, and its argument is evaluated
+abbrev pub erased_access_trees : ℕ → Option ProcedureTree
+erased_access_trees zero = Some (a_procedure 0 1 (Int ∷ []) None [] [])
+erased_access_trees (suc f) = Some (a_procedure 1 2 [] None (int_pointer ∷ []) (declare 0 (Some null)
+    ∷ run_call (record { 0 = 0 }) (an_argument (erased (an_expression (cell (local 0 (at 2 33)) only_field int_block (at 2 32)) no_expressions)) (an_argument (passed (constant (pos 1))) no_arguments)) (at 2 28) ∷ []))
+
+abbrev pub erased_access_program : TypedProgram
+erased_access_program = record { types = One Int ∷ []; procedures = erased_access_trees }
+
+abbrev pub erased_access_bug : Bug
+erased_access_bug = record { kind = NullDereference; site = at 2 32; trace = mark Access (at 2 32) ∷ [] }
+
+-- `int pick(long v, int n, long w) { return n; }` and `int f(void) { return pick(getchar(), 7, getchar()); }`
+abbrev pub around_passed_trees : ℕ → Option ProcedureTree
+around_passed_trees zero = Some (a_procedure 0 1 (Int ∷ []) (Some Int) [] (return (Some (local 0 (at 1 43))) ∷ []))
+around_passed_trees (suc f) = Some (a_procedure 1 2 [] (Some Int) [] (return (Some (call (record { 0 = 0 })
+    (an_argument (erased (an_expression (get_char (at 2 27)) no_expressions)) (an_argument (passed (constant (pos 7))) (an_argument (erased (an_expression (get_char (at 2 41)) no_expressions)) no_arguments))) Int (at 2 22))) ∷ []))
+
+abbrev pub around_passed_program : TypedProgram
+around_passed_program = record { types = One Int ∷ []; procedures = around_passed_trees }
+
 -- What these programs do.
 pub record WorkedTreeExecutions : Type 0 where
   pub unchecked_malloc : IsManifest (TreeCalls unchecked_tree 0) (One Int ∷ []) [] unchecked_bug
@@ -96,3 +117,7 @@ pub record WorkedTreeExecutions : Type 0 where
       (mark Got (at 2 21) ∷ mark Else (at 2 45) ∷ mark (Enter (record { 0 = 0 })) (at 2 59) ∷ mark Freed (at 1 16) ∷ mark Freed (at 1 24) ∷ [])
       (Failed (error DoubleFree) (at 1 24)) end
   pub in_loop : (end : HeapMap) × BoundedTreeCalls 2 freed_in_loop_tree 0 [] empty_heap two_turns (Failed (error DoubleFree) (at 1 78)) end
+  -- an argument that isn't passed: the call isn't entered where it fails, and arguments stand in their order
+  pub erased_access : IsManifest (TreeCalls erased_access_program 1) (One Int ∷ []) [] erased_access_bug
+  pub around_passed : (end : HeapMap) × TreeCalls around_passed_program 1 [] empty_heap
+      (mark Input (at 2 27) ∷ mark Input (at 2 41) ∷ mark (Enter (record { 0 = 0 })) (at 2 22) ∷ mark Leave (at 2 22) ∷ []) (Returned (Word (pos 7))) end

@@ -6,7 +6,7 @@ use Rattle.px_syntax.specs.declared.type_name.TypeName.{TypeName}
 use Rattle.px_syntax.specs.ExpressionTree as E
 use Rattle.px_syntax.specs.ExpressionTree.{ExpressionTree, ExpressionTrees}
 use Rattle.px_syntax.specs.TypedTree as T
-use Rattle.px_syntax.specs.TypedTree.{Expression}
+use Rattle.px_syntax.specs.TypedTree.{Argument}
 use Rattle.px_bodies.specs.Types.{is_value}
 use Rattle.px_bodies.specs.Environment.{Environment, value_type}
 use Rattle.px_bodies.specs.Typed.{Typed, as_argument}
@@ -15,7 +15,7 @@ use Rattle.px_bodies.specs.Expressions.{site_of, after_first, none_is_missing, p
 use Rattle.px_typing.specs.Mentions.{Mention, of_expression, of_expressions, of_option, of_type, of_size}
 use Rattle.px_meaning.specs.TypedProgram.{TypedProgram}
 use Rattle.px_meaning.specs.TreeTypes.{LocalTypes, AreOf}
-use Rattle.px_programs.specs.Numbers.{AreListed}
+use Rattle.px_programs.specs.Numbers.{AreArgumentsListed}
 use Rattle.px_programs.proofs.Options.{Holds, of_some, on_when, on_or_else, on_given, on_given_is, on_given_when, on_map}
 use Rattle.px_programs.proofs.Lists.{all_first, all_second}
 use Rattle.px_programs.proofs.TypeWords.{IsKnown, value_listed}
@@ -24,8 +24,8 @@ use Rattle.px_programs.proofs.TypedValues.{Fits, KnownCall, KnownMention, KnownF
 
 module _ (env : Environment) (P : TypedProgram) (names : ℕ) (fields : KnownFields env P names) (locals : LocalTypes) where
   -- the arguments are of these types
-  abbrev pub AreArguments : Option (List TypeName) → List Expression → Type 0
-  AreArguments wanted es = (ts : List ValueType) × AreOf P locals ts (T.expressions_of es) × AreListed names (length P.types) (T.expressions_of es) × Fits env wanted ts
+  abbrev pub AreArguments : Option (List TypeName) → List Argument → Type 0
+  AreArguments wanted es = (ts : List ValueType) × AreOf P locals ts (T.arguments_of es) × AreArgumentsListed names (length P.types) (T.arguments_of es) × Fits env wanted ts
 
   abbrev pub AreKnown : List Mention → Type 0
   AreKnown ms = AllByRecursion (KnownMention env P names) ms
@@ -43,7 +43,7 @@ module _ (env : Environment) (P : TypedProgram) (names : ℕ) (fields : KnownFie
     named_local name [] h = tt
     named_local name (l ∷ ls) h = on_or_else (IsLocal env P.types locals) (named name ls) (if_named name l) (named_local name ls h.1) (on_when (IsLocal env P.types locals) (bytes_eq l.name name) l h.0)
 
-    call_good : (f : List ℕ) (site : _) (es : List Expression) → KnownCall env P names f → AreArguments (parameters_of (env.signature f)) es → Holds Good (typed_call env f site es)
+    call_good : (f : List ℕ) (site : _) (es : List Argument) → KnownCall env P names f → AreArguments (parameters_of (env.signature f)) es → Holds Good (typed_call env f site es)
     call_good f site es k h =
         on_given_is Good (call_type (env.signature f)) _ (λ t is.
         let known = of_some (IsKnown env P.types) (call_type (env.signature f)) t is k.result in

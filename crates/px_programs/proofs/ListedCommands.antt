@@ -8,11 +8,11 @@ use Rattle.px_core.specs.CommandTree as command
 use Rattle.px_syntax.specs.declared.typed_expression.Arithmetic.{Arithmetic}
 use Rattle.px_syntax.specs.declared.typed_expression.Relation.{Relation}
 use Rattle.px_syntax.specs.declared.typed_expression.Relation.TheVariants as relation
-use Rattle.px_syntax.specs.TypedTree.{Expression, constant, null, local, negated, arithmetic, truth, cell, allocate, get_char, call, stop, Expressions, no_expressions, an_expression, Condition, compare, word, pointer, both, either, opposite, Place, local_place, cell_place, Statement, block, declare, assign, update, run_call, free, input, choose, loop, break, continue, return, evaluate, Statements, no_statements, a_statement}
+use Rattle.px_syntax.specs.TypedTree.{Expression, constant, null, local, negated, arithmetic, truth, cell, allocate, get_char, call, stop, Expressions, no_expressions, an_expression, Arguments, no_arguments, an_argument, passed, erased, Condition, compare, word, pointer, both, either, opposite, Place, local_place, cell_place, Statement, block, declare, assign, update, run_call, free, input, choose, loop, break, continue, return, evaluate, Statements, no_statements, a_statement}
 use Rattle.px_syntax.specs.declared.typed_expression.Arithmetic.TheVariants.{Add, Subtract, Multiply, Divide, Remainder}
-use Rattle.px_lower.specs.Lowering.{Lowered, and_then, doing, copy, lowered_expression, lowered_expressions, lowered_passed, lowered_condition, comparison, lowered_declaration, lowered_assignment, lowered_update, lowered_head, lowered_return, lowered_statement, lowered_statements, applied, operation, result_slot}
+use Rattle.px_lower.specs.Lowering.{Lowered, and_then, doing, copy, lowered_expression, lowered_arguments, lowered_passed, lowered_condition, comparison, lowered_declaration, lowered_assignment, lowered_update, lowered_head, lowered_return, lowered_statement, lowered_statements, applied, operation, result_slot}
 use Rattle.px_lower.proofs.Sequences.{commands_then}
-use Rattle.px_programs.specs.Numbers.{IsListed, AreListed, IsTestListed, IsPlaceListed, IsListedIf, IsTestListedIf, IsStatementListed, AreStatementsListed}
+use Rattle.px_programs.specs.Numbers.{IsListed, AreListed, AreArgumentsListed, IsTestListed, IsPlaceListed, IsListedIf, IsTestListedIf, IsStatementListed, AreStatementsListed}
 use Rattle.px_programs.specs.ListedBodies.{IsCommandListed, AreCommandsListed}
 
 module _ (names types : ℕ) where
@@ -59,14 +59,15 @@ module _ (names types : ℕ) where
     expression_listed (cell p field b site) n h = then' (lowered_expression p n) _ (expression_listed p n h.0) (λ x. (h.1, (tt, tt)))
     expression_listed (allocate b site) n h = (h, tt)
     expression_listed (get_char site) n h = (tt, tt)
-    expression_listed (call proc es result site) n h = then' (lowered_expressions es n) _ (each_listed es n h.1) (λ xs. (h.0, (tt, tt)))
+    expression_listed (call proc es result site) n h = then' (lowered_arguments es n) _ (each_listed es n h.1) (λ xs. (h.0, (tt, tt)))
     expression_listed (stop number site parts) n h = then' (lowered_passed parts n) _ (passed_listed parts n h) (λ u. (tt, tt))
 
-    each_listed : (es : Expressions) (n : ℕ) → AreListed names types es → All (lowered_expressions es n).commands
-    each_listed no_expressions n h = tt
-    each_listed (an_expression e rest) n h =
+    each_listed : (es : Arguments) (n : ℕ) → AreArgumentsListed names types es → All (lowered_arguments es n).commands
+    each_listed no_arguments n h = tt
+    each_listed (an_argument (passed e) rest) n h =
         let m = (lowered_expression e n).next in
-        then' (lowered_expression e n) _ (expression_listed e n h.0) (λ x. then' (lowered_expressions rest m) _ (each_listed rest m h.1) (λ xs. tt))
+        then' (lowered_expression e n) _ (expression_listed e n h.0) (λ x. then' (lowered_arguments rest m) _ (each_listed rest m h.1) (λ xs. tt))
+    each_listed (an_argument (erased parts) rest) n h = then' (lowered_passed parts n) (λ _ n. lowered_arguments rest n) (passed_listed parts n h.0) (λ u. each_listed rest (lowered_passed parts n).next h.1)
 
     passed_listed : (es : Expressions) (n : ℕ) → AreListed names types es → All (lowered_passed es n).commands
     passed_listed no_expressions n h = tt
@@ -75,8 +76,8 @@ module _ (names types : ℕ) where
         let m = (lowered_expression p n).next in
         then' (lowered_expression p n) _ (expression_listed p n h.0.0) (λ x. (h.0.1, (tt, passed_listed rest (suc m) h.1)))
     passed_listed (an_expression (call proc es result site) rest) n h =
-        let m = (lowered_expressions es n).next in
-        then' (lowered_expressions es n) _ (each_listed es n h.0.1) (λ xs. (h.0.0, passed_listed rest m h.1))
+        let m = (lowered_arguments es n).next in
+        then' (lowered_arguments es n) _ (each_listed es n h.0.1) (λ xs. (h.0.0, passed_listed rest m h.1))
     passed_listed (an_expression (constant z) rest) n h = then' (lowered_expression (constant z) n) (λ _ n. lowered_passed rest n) (expression_listed (constant z) n h.0) (λ x. passed_listed rest (lowered_expression (constant z) n).next h.1)
     passed_listed (an_expression null rest) n h = then' (lowered_expression null n) (λ _ n. lowered_passed rest n) (expression_listed null n h.0) (λ x. passed_listed rest (lowered_expression null n).next h.1)
     passed_listed (an_expression (negated e) rest) n h = then' (lowered_expression (negated e) n) (λ _ n. lowered_passed rest n) (expression_listed (negated e) n h.0) (λ x. passed_listed rest (lowered_expression (negated e) n).next h.1)
@@ -145,7 +146,7 @@ module _ (names types : ℕ) where
     statement_listed (declare i e) n h = declaration_listed i e n h
     statement_listed (assign place e) n h = assignment_listed place e n h.0 h.1
     statement_listed (update op place e) n h = update_listed op place e n h.0 h.1
-    statement_listed (run_call proc es site) n h = then' (lowered_expressions es n) _ (each_listed es n h.1) (λ xs. (h.0, tt))
+    statement_listed (run_call proc es site) n h = then' (lowered_arguments es n) _ (each_listed es n h.1) (λ xs. (h.0, tt))
     statement_listed (free e b site) n h = then' (lowered_expression e n) _ (expression_listed e n h.0) (λ x. (h.1, tt))
     statement_listed (input site) n h = (tt, tt)
     statement_listed (choose c first second) n h =

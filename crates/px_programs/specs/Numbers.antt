@@ -5,7 +5,7 @@ use Rattle.px_terms.specs.declared.types.ValueType.{ValueType}
 use Rattle.px_terms.specs.declared.types.ValueType.TheVariants.{Int, Pointer}
 use Rattle.px_terms.specs.declared.types.BlockType.{BlockType}
 use Rattle.px_terms.specs.declared.types.BlockType.TheVariants.{One, Fields, Opaque}
-use Rattle.px_syntax.specs.TypedTree.{Expression, constant, null, local, negated, arithmetic, truth, cell, allocate, get_char, call, stop, Expressions, no_expressions, an_expression, Condition, compare, word, pointer, both, either, opposite, Place, local_place, cell_place, Statement, block, declare, assign, update, run_call, free, input, choose, loop, break, continue, return, evaluate, Statements, no_statements, a_statement}
+use Rattle.px_syntax.specs.TypedTree.{Expression, constant, null, local, negated, arithmetic, truth, cell, allocate, get_char, call, stop, Expressions, no_expressions, an_expression, Arguments, no_arguments, an_argument, passed, erased, Condition, compare, word, pointer, both, either, opposite, Place, local_place, cell_place, Statement, block, declare, assign, update, run_call, free, input, choose, loop, break, continue, return, evaluate, Statements, no_statements, a_statement}
 use Rattle.px_syntax.specs.ProgramTree.{ProcedureTree}
 
 -- so many block types are listed
@@ -33,12 +33,17 @@ module _ (names types : ℕ) where
     IsListed (cell e field b site) = IsListed e × (b.0 < types)
     IsListed (allocate b site) = b.0 < types
     IsListed (get_char site) = ⊤
-    IsListed (call proc es result site) = (proc.0 < names) × AreListed es × IsValueListed types result
+    IsListed (call proc es result site) = (proc.0 < names) × AreArgumentsListed es × IsValueListed types result
     IsListed (stop number site parts) = AreListed parts
 
     pub AreListed : Expressions → Type 0
     AreListed no_expressions = ⊤
     AreListed (an_expression e rest) = IsListed e × AreListed rest
+
+    pub AreArgumentsListed : Arguments → Type 0
+    AreArgumentsListed no_arguments = ⊤
+    AreArgumentsListed (an_argument (passed e) rest) = IsListed e × AreArgumentsListed rest
+    AreArgumentsListed (an_argument (erased parts) rest) = AreListed parts × AreArgumentsListed rest
 
     pub IsTestListed : Condition → Type 0
     IsTestListed (compare r e f site) = IsListed e × IsListed f
@@ -66,7 +71,7 @@ module _ (names types : ℕ) where
     IsStatementListed (declare n e) = IsListedIf e
     IsStatementListed (assign place e) = IsPlaceListed place × IsListed e
     IsStatementListed (update op place e) = IsPlaceListed place × IsListed e
-    IsStatementListed (run_call proc es site) = (proc.0 < names) × AreListed es
+    IsStatementListed (run_call proc es site) = (proc.0 < names) × AreArgumentsListed es
     IsStatementListed (free e b site) = IsListed e × (b.0 < types)
     IsStatementListed (input site) = ⊤
     IsStatementListed (choose c first second) = IsTestListed c × IsStatementListed first × IsStatementListed second

@@ -12,7 +12,7 @@ use Rattle.px_meaning.specs.Operations.{result_of}
 use Rattle.px_meaning.specs.Steps.{ProcedureCalls}
 use Rattle.px_meaning.specs.TreeExecution.{errs, by_outcome, Outcomes, fault, Verdicts, Exits, CallsProcedure, Evaluates, EvaluatesAll, PassesAll, Tests, failing, Declares, Assigns, Updates, TestsIf, Loops, GivesBack, Executes, ExecutesAll, Calculates}
 use Rattle.px_syntax.specs.declared.typed_expression.Relation.TheVariants as relation
-use Rattle.px_syntax.specs.TypedTree.{Expression, constant, null, local, negated, arithmetic, truth, cell, allocate, get_char, call, stop, Expressions, no_expressions, an_expression, Condition, compare, word, pointer, both, either, opposite, Place, local_place, cell_place, Statement, block, declare, assign, update, run_call, free, input, choose, loop, break, continue, return, evaluate, Statements, no_statements, a_statement}
+use Rattle.px_syntax.specs.TypedTree.{Expression, constant, null, local, negated, arithmetic, truth, cell, allocate, get_char, call, stop, Expressions, no_expressions, an_expression, Arguments, no_arguments, an_argument, passed, erased, Condition, compare, word, pointer, both, either, opposite, Place, local_place, cell_place, Statement, block, declare, assign, update, run_call, free, input, choose, loop, break, continue, return, evaluate, Statements, no_statements, a_statement}
 use Rattle.px_syntax.specs.declared.typed_expression.Arithmetic.{Arithmetic}
 use Rattle.px_replay.specs.declared.flow.Flow.TheVariants.{Falls, Breaks, Continues, Returns}
 use Rattle.px_replay.specs.Beginnings.{CallBeginnings, see, no_error, after_halt, IsCutInCall, IsCutIn, IsCutInAll, IsCutInPassed, IsCutInTest, IsCutInValue, IsCutInTestIf, IsCutInAssignment, IsCutInUpdate, IsCutInLoop, IsCutInStatement, IsCutInStatements}
@@ -29,7 +29,7 @@ module _ (t : List Event) (size : ℕ) (types : List BlockType) (C : ProcedureCa
   abbrev ValueConfined : Expression → Locals → Type 1
   ValueConfined e l = Confines t size outcomes (Replays types R e l) (λ K so_far heap. Evaluates see types C e l so_far heap K) (λ so_far heap. IsCutIn types C B (λ a. t ≡ a) e l so_far heap)
 
-  abbrev AllConfined : Expressions → Locals → Type 1
+  abbrev AllConfined : Arguments → Locals → Type 1
   AllConfined es l = Confines t size (ways (List Value)) (ReplaysAll types R es l) (λ K so_far heap. EvaluatesAll see types C es l so_far heap K.0 K.1) (λ so_far heap. IsCutInAll types C B (λ a. t ≡ a) es l so_far heap)
 
   abbrev PassedConfined : Expressions → Locals → Type 1
@@ -81,11 +81,13 @@ module _ (t : List Event) (size : ℕ) (types : List BlockType) (C : ProcedureCa
     value_confined (stop number site parts) l =
         first_alone (through_ways t size outcomes errs_all (λ K a halt at h k. k) (passed_confined parts l) (λ _. stops t size outcomes number site))
 
-    all_confined : (es : Expressions) (l : Locals) → AllConfined es l
-    all_confined no_expressions l = at_once t size (ways (List Value)) []
-    all_confined (an_expression e rest) l =
+    all_confined : (es : Arguments) (l : Locals) → AllConfined es l
+    all_confined no_arguments l = at_once t size (ways (List Value)) []
+    all_confined (an_argument (passed e) rest) l =
         through_outcome t size (ways (List Value)) (λ K. K.0) (λ K a halt at h k. k) (value_confined e l)
         (λ v. first_alone (through_ways t size (ways (List Value)) (λ K. K.0) (λ K a halt at h k. k) (all_confined rest l) (λ vs. at_once t size (ways (List Value)) (v ∷ vs))))
+    all_confined (an_argument (erased parts) rest) l =
+        through_ways t size (ways (List Value)) (λ K. K.0) (λ K a halt at h k. k) (passed_confined parts l) (λ _. all_confined rest l)
 
     passed_confined : (es : Expressions) (l : Locals) → PassedConfined es l
     passed_confined no_expressions l = at_once t size (ways ⊤) tt

@@ -12,6 +12,7 @@ use Rattle.px_terms.specs.declared.types.ValueType.{ValueType}
 use Rattle.px_syntax.specs.declared.typed_expression.CellLink.{CellLink}
 use Rattle.px_syntax.specs.declared.typed_expression.TypedExpression.{TypedExpression, TypedExpression-F, out-TypedExpression, roll-TypedExpression, roll-out-TypedExpression}
 use Rattle.px_syntax.specs.declared.typed_expression.TypedExpression.TheVariants as E
+use Rattle.px_syntax.specs.declared.typed_expression.Argument.{Argument}
 use Rattle.px_syntax.specs.TypedTree.{Expression, constant, null, local, negated, arithmetic, truth, cell, allocate, get_char, call, stop, Expressions, no_expressions, an_expression, expressions_of}
 use Rattle.px_syntax.specs.TypedViews.{typed_expression}
 use Rattle.px_syntax.proofs.TypedEquations.{typed-Arithmetic, typed-Stop}
@@ -97,7 +98,7 @@ module _ (types : List BlockType) (calls : CallReplays) where
   -- one whose value has no case of its own where it isn't read: all of it is done, and then nothing
   pub passes_plain : (e : TypedExpression) → ((i : ℕ) (site : Site) → e ≡ E.Local i site → ⊥) →
       ((p : Box TypedExpression Global) (row : Vec CellLink Global) (field : FieldId) (block : TypeId) (site : Site) → e ≡ E.Cell p row field block site → ⊥) →
-      ((proc : ProcId) (row : Vec TypedExpression Global) (type : ValueType) (site : Site) → e ≡ E.Call proc row type site → ⊥) →
+      ((proc : ProcId) (row : Vec Argument Global) (type : ValueType) (site : Site) → e ≡ E.Call proc row type site → ⊥) →
       (locals : Locals) (s : PlainScript) (r : Result ⊤ Stop) (s' : PlainScript) → PassesPlainly (typed_expression e) locals s r s'
   passes_plain e no_local no_cell no_call locals s r s' = by (out-TypedExpression e) (roll-out-TypedExpression e)
     where

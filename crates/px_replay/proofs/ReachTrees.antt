@@ -19,7 +19,7 @@ use Rattle.px_meaning.specs.Steps.{ProcedureCalls, marking, by_written, new_bloc
 use Rattle.px_meaning.specs.TreeExecution.{gives, errs, Outcomes, with_value, by_outcome, yes, no, fault, Verdicts, with_verdict, RelationHolds, RelationFails, Uses, Loads, Reaches as Gets, Returns, CallsProcedure, Branches, Evaluates, EvaluatesAll, PassesAll, Tests, Outcome, calculation}
 use Rattle.px_syntax.specs.declared.typed_expression.Relation.{Relation}
 use Rattle.px_syntax.specs.declared.typed_expression.Relation.TheVariants as relation
-use Rattle.px_syntax.specs.TypedTree.{Expression, constant, null, local, negated, arithmetic, truth, cell, allocate, get_char, call, stop, Expressions, no_expressions, an_expression, Condition, compare, word, pointer, both, either, opposite}
+use Rattle.px_syntax.specs.TypedTree.{Expression, constant, null, local, negated, arithmetic, truth, cell, allocate, get_char, call, stop, Expressions, no_expressions, an_expression, Arguments, no_arguments, an_argument, passed, erased, Condition, compare, word, pointer, both, either, opposite}
 use Rattle.px_syntax.specs.declared.typed_expression.Arithmetic.{Arithmetic}
 use Rattle.px_replay.specs.declared.stop.Stop.{Stop}
 use Rattle.px_replay.specs.declared.stop.Stop.TheVariants as stop
@@ -227,7 +227,7 @@ module _ (types : List BlockType) (C : CallReplays) (calls : ProcedureCalls Even
   abbrev pub Eval : Expression → Locals → PlainScript → Result Value Stop → PlainScript → Type 1
   Eval e l = Reaches outcomes never (Evaluates see types calls e l) (λ Cut so_far heap. IsCutIn types calls begun Cut e l so_far heap)
 
-  abbrev pub EvalAll : Expressions → Locals → PlainScript → Result (List Value) Stop → PlainScript → Type 1
+  abbrev pub EvalAll : Arguments → Locals → PlainScript → Result (List Value) Stop → PlainScript → Type 1
   EvalAll es l = Reaches (ways (List Value)) never (λ so_far heap K. EvaluatesAll see types calls es l so_far heap K.0 K.1) (λ Cut so_far heap. IsCutInAll types calls begun Cut es l so_far heap)
 
   abbrev pub PassAll : Expressions → Locals → PlainScript → Result ⊤ Stop → PlainScript → Type 1
@@ -355,12 +355,15 @@ module _ (types : List BlockType) (C : CallReplays) (calls : ProcedureCalls Even
         then_cut _ (λ K. by_outcome K.0 (λ so_far v heap. PassesAll see types calls rest l so_far heap K.0 (λ so_far heap. K.1 so_far tt heap)))
         (λ Cut. by_outcome no_error (λ so_far x heap. IsCutInPassed types calls begun Cut rest l so_far heap)) (λ K t halt at h k. k) (eval_reached (stop number site parts) l a) (λ v k. passed_reached rest l k) h
 
-    pub all_reached : {s : PlainScript} {r : Result (List Value) Stop} {s' : PlainScript} → (es : Expressions) (l : Locals) → ReplaysAll types C es l s r s' → EvalAll es l s r s'
-    all_reached no_expressions l h = answers_reached (Ok []) (λ so_far K k. k) h
-    all_reached (an_expression e rest) l (r1, s1, a, h) =
+    pub all_reached : {s : PlainScript} {r : Result (List Value) Stop} {s' : PlainScript} → (es : Arguments) (l : Locals) → ReplaysAll types C es l s r s' → EvalAll es l s r s'
+    all_reached no_arguments l h = answers_reached (Ok []) (λ so_far K k. k) h
+    all_reached (an_argument (passed e) rest) l (r1, s1, a, h) =
         then_cut _ (λ K. by_outcome K.0 (λ so_far v heap. EvaluatesAll see types calls rest l so_far heap K.0 (λ so_far vs heap. K.1 so_far (v ∷ vs) heap)))
         (λ Cut. by_outcome no_error (λ so_far v heap. IsCutInAll types calls begun Cut rest l so_far heap)) (λ K t halt at h k. k) (eval_reached e l a)
         (λ v (r2, s2, b, h). then_last _ (λ K. (K.0, λ so_far vs heap. K.1 so_far (v ∷ vs) heap)) (λ K t halt at h k. k) (all_reached rest l b) (λ vs k. answers_reached (Ok (v ∷ vs)) (λ so_far K k. k) k) h) h
+    all_reached (an_argument (erased parts) rest) l (r1, s1, a, h) =
+        then_cut _ (λ K. (K.0, λ so_far v heap. EvaluatesAll see types calls rest l so_far heap K.0 K.1)) (λ Cut. (no_error, λ so_far v heap. IsCutInAll types calls begun Cut rest l so_far heap)) (λ K t halt at h k. k)
+        (passed_reached parts l a) (λ v k. all_reached rest l k) h
 
     pub test_reached : {s : PlainScript} {r : Result Bool Stop} {s' : PlainScript} → (c : Condition) (l : Locals) → Checks types C c l s r s' → Test c l s r s'
     test_reached (compare q d e site) l (r1, s1, a, h) =

@@ -5,10 +5,11 @@ use Rattle.px_syntax.specs.declared.typed_expression.CellLink.{CellLink}
 use Rattle.px_syntax.specs.declared.typed_expression.ArithmeticLink.{ArithmeticLink}
 use Rattle.px_syntax.specs.declared.typed_expression.RelationLink.{RelationLink}
 use Rattle.px_syntax.specs.declared.typed_expression.TypedExpression.{TypedExpression}
+use Rattle.px_syntax.specs.declared.typed_expression.Argument.{Argument as RustArgument}
 use Rattle.px_syntax.specs.declared.typed_expression.Condition.{Condition as RustCondition}
 use Rattle.px_syntax.specs.declared.typed_statement.TypedStatement.{TypedStatement}
-use Rattle.px_syntax.specs.TypedTree.{Expression, constant, null, local, negated, arithmetic, truth, cell, allocate, get_char, call, stop, Expressions, no_expressions, an_expression, Condition, compare, word, pointer, both, either, opposite, Place, local_place, cell_place, Statement, block, declare, assign, update, run_call, free, input, choose, loop, break, continue, return, evaluate, Statements, no_statements, a_statement, expressions_of, statements_of}
-use Rattle.px_syntax.specs.TypedViews.{ArithmeticLinkTree, RelationLinkTree, typed_expression, typed_condition, typed_statement, arithmetic_link, relation_link, calculated, compared, cells, all_of, any_of}
+use Rattle.px_syntax.specs.TypedTree.{Expression, constant, null, local, negated, arithmetic, truth, cell, allocate, get_char, call, stop, Expressions, no_expressions, an_expression, Arguments, Argument, no_arguments, an_argument, passed, erased, Condition, compare, word, pointer, both, either, opposite, Place, local_place, cell_place, Statement, block, declare, assign, update, run_call, free, input, choose, loop, break, continue, return, evaluate, Statements, no_statements, a_statement, expressions_of, arguments_of, statements_of}
+use Rattle.px_syntax.specs.TypedViews.{ArithmeticLinkTree, RelationLinkTree, typed_expression, typed_argument, typed_condition, typed_statement, arithmetic_link, relation_link, calculated, compared, cells, all_of, any_of}
 use Rattle.px_replay.specs.declared.callees.Callees.{Callees}
 
 abbrev mutual
@@ -22,12 +23,20 @@ abbrev mutual
   size_of (cell p field t site) = suc (size_of p)
   size_of (allocate t site) = 1
   size_of (get_char site) = 1
-  size_of (call proc es result site) = suc (sizes_of es)
+  size_of (call proc es result site) = suc (arguments_size es)
   size_of (stop number site parts) = suc (sizes_of parts)
 
   pub sizes_of : Expressions → ℕ
   sizes_of no_expressions = 0
   sizes_of (an_expression e rest) = size_of e + sizes_of rest
+
+  pub arguments_size : Arguments → ℕ
+  arguments_size no_arguments = 0
+  arguments_size (an_argument a rest) = argument_size a + arguments_size rest
+
+  pub argument_size : Argument → ℕ
+  argument_size (passed e) = size_of e
+  argument_size (erased parts) = suc (sizes_of parts)
 
   pub test_size : Condition → ℕ
   test_size (compare r a b site) = suc (size_of a + size_of b)
@@ -55,7 +64,7 @@ abbrev mutual
   statement_size (declare n e) = suc (value_size e)
   statement_size (assign place e) = suc (place_size place + size_of e)
   statement_size (update op place e) = suc (place_size place + size_of e)
-  statement_size (run_call proc es site) = suc (sizes_of es)
+  statement_size (run_call proc es site) = suc (arguments_size es)
   statement_size (free e t site) = suc (size_of e)
   statement_size (input site) = 1
   statement_size (choose c first second) = suc (test_size c + (statement_size first + statement_size second))
@@ -132,9 +141,14 @@ pub cells_first : (links : List CellLink) (e : Expression) → size_of e ≤ siz
 cells_first [] e = omega arith
 cells_first (l ∷ links) e = let h = cells_first links (cell e l.field l.block l.site) in omega (arith, h)
 
-pub argument_in : (es : List TypedExpression) (i : ℕ) (e : TypedExpression) → i < length es → e ≡ get_or es i e → size_of (typed_expression e) ≤ sizes_of (expressions_of (map typed_expression es))
+pub part_in : (es : List TypedExpression) (i : ℕ) (e : TypedExpression) → i < length es → e ≡ get_or es i e → size_of (typed_expression e) ≤ sizes_of (expressions_of (map typed_expression es))
+part_in [] i e lt is = absurd (omega (arith, lt))
+part_in (x ∷ es) zero e lt is = subst (λ y. size_of (typed_expression y) ≤ sizes_of (expressions_of (map typed_expression (x ∷ es)))) (sym is) (omega arith)
+part_in (x ∷ es) (suc i) e lt is = let h = part_in es i e (omega (arith, lt)) is in omega (arith, h)
+
+pub argument_in : (es : List RustArgument) (i : ℕ) (e : RustArgument) → i < length es → e ≡ get_or es i e → argument_size (typed_argument e) ≤ arguments_size (arguments_of (map typed_argument es))
 argument_in [] i e lt is = absurd (omega (arith, lt))
-argument_in (x ∷ es) zero e lt is = subst (λ y. size_of (typed_expression y) ≤ sizes_of (expressions_of (map typed_expression (x ∷ es)))) (sym is) (omega arith)
+argument_in (x ∷ es) zero e lt is = subst (λ y. argument_size (typed_argument y) ≤ arguments_size (arguments_of (map typed_argument (x ∷ es)))) (sym is) (omega arith)
 argument_in (x ∷ es) (suc i) e lt is = let h = argument_in es i e (omega (arith, lt)) is in omega (arith, h)
 
 pub statement_in : (all : List TypedStatement) (i : ℕ) (s : TypedStatement) → i < length all → s ≡ get_or all i s → statement_size (typed_statement s) ≤ statements_size (statements_of (map typed_statement all))

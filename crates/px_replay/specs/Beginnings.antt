@@ -14,8 +14,8 @@ use Rattle.px_meaning.specs.Execution.{Locals, with_local}
 use Rattle.px_meaning.specs.Events.{Event}
 use Rattle.px_meaning.specs.Steps.{ProcedureCalls, marking}
 use Rattle.px_meaning.specs.TypedProgram.{TypedProgram}
-use Rattle.px_syntax.specs.TypedTree.{Expression, constant, null, local, negated, arithmetic, truth, cell, allocate, get_char, call, stop, Expressions, no_expressions, an_expression, Condition, compare, word, pointer, both, either, opposite, Place, local_place, cell_place, Statement, block, declare, assign, update, run_call, free, input, choose, loop, break, continue, return, evaluate, Statements, no_statements, a_statement}
-use Rattle.px_meaning.specs.TreeExecution.{Outcome, by_outcome, with_verdict, Verdict, Exits, with_fall, behind_body, Uses, Loads, Reaches, CallsProcedure, Evaluates, EvaluatesAll, Tests, TestsIf, Executes}
+use Rattle.px_syntax.specs.TypedTree.{Expression, constant, null, local, negated, arithmetic, truth, cell, allocate, get_char, call, stop, Expressions, no_expressions, an_expression, Arguments, no_arguments, an_argument, passed, erased, Condition, compare, word, pointer, both, either, opposite, Place, local_place, cell_place, Statement, block, declare, assign, update, run_call, free, input, choose, loop, break, continue, return, evaluate, Statements, no_statements, a_statement}
+use Rattle.px_meaning.specs.TreeExecution.{Outcome, by_outcome, with_verdict, Verdict, Exits, with_fall, behind_body, Uses, Loads, Reaches, CallsProcedure, Evaluates, EvaluatesAll, PassesAll, Tests, TestsIf, Executes}
 use Rattle.px_meaning.specs.TreeCalls.{first_locals, TreeCallsWithin}
 
 -- events are seen as they are
@@ -78,11 +78,14 @@ module _ (types : List BlockType) (calls : ProcedureCalls Event) (begun : CallBe
         ⊎ Evaluates see types calls (call proc es result site) locals so_far heap after_value)
     IsCutIn (stop number site parts) locals so_far heap = IsCutInPassed parts locals so_far heap
 
-    pub IsCutInAll : Expressions → Locals → List Event → HeapMap → Type 0
-    IsCutInAll no_expressions locals so_far heap = ⊥
-    IsCutInAll (an_expression e rest) locals so_far heap =
+    pub IsCutInAll : Arguments → Locals → List Event → HeapMap → Type 0
+    IsCutInAll no_arguments locals so_far heap = ⊥
+    IsCutInAll (an_argument (passed e) rest) locals so_far heap =
         IsCutIn e locals so_far heap
         ⊎ Evaluates see types calls e locals so_far heap (by_outcome no_error (λ so_far x heap. IsCutInAll rest locals so_far heap))
+    IsCutInAll (an_argument (erased parts) rest) locals so_far heap =
+        IsCutInPassed parts locals so_far heap
+        ⊎ PassesAll see types calls parts locals so_far heap no_error (λ so_far heap. IsCutInAll rest locals so_far heap)
 
     -- the same of values that aren't read
     pub IsCutInPassed : Expressions → Locals → List Event → HeapMap → Type 0

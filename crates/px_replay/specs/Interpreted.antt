@@ -24,6 +24,11 @@ abbrev pub given : Result (Vec Value Global) Stop → Result (List Value) Stop
 given (Ok values) = Ok values.items
 given (Err e) = Err e
 
+-- these values, where there is an answer
+abbrev pub given_these : {A : Type 0} → List Value → Result A Stop → Result (List Value) Stop
+given_these values (Ok x) = Ok values
+given_these values (Err e) = Err e
+
 -- an answer of code that changes no flow: it falls through with these locals
 abbrev pub falls_with : {A : Type 0} → Result A Stop → Locals → Result Ended Stop
 falls_with (Ok x) locals = Ok (Falls, locals)

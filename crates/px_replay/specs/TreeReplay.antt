@@ -17,7 +17,7 @@ use Rattle.px_meaning.specs.TreeCalls.{first_locals}
 use Rattle.px_syntax.specs.ProgramTree.{ProcedureTree}
 use Rattle.px_syntax.specs.declared.typed_expression.Relation.{Relation}
 use Rattle.px_syntax.specs.declared.typed_expression.Relation.TheVariants as relation
-use Rattle.px_syntax.specs.TypedTree.{Expression, constant, null, local, negated, arithmetic, truth, cell, allocate, get_char, call, stop, Expressions, no_expressions, an_expression, Condition, compare, word, pointer, both, either, opposite, Place, local_place, cell_place, Statement, block, declare, assign, update, run_call, free, input, choose, loop, break, continue, return, evaluate, Statements, no_statements, a_statement}
+use Rattle.px_syntax.specs.TypedTree.{Expression, constant, null, local, negated, arithmetic, truth, cell, allocate, get_char, call, stop, Expressions, no_expressions, an_expression, Arguments, no_arguments, an_argument, passed, erased, Condition, compare, word, pointer, both, either, opposite, Place, local_place, cell_place, Statement, block, declare, assign, update, run_call, free, input, choose, loop, break, continue, return, evaluate, Statements, no_statements, a_statement}
 use Rattle.px_syntax.specs.declared.typed_expression.Arithmetic.{Arithmetic}
 use Rattle.px_replay.specs.declared.stop.Stop.{Stop}
 use Rattle.px_replay.specs.declared.stop.Stop.TheVariants as halt
@@ -99,11 +99,12 @@ module _ (types : List BlockType) (calls : CallReplays) where
         and_then (ReplaysAll arguments locals) (λ vs. and_then (calls_procedure proc site vs) (λ v. answers (used_value v site))) s r s'
     Replays (stop number site parts) locals s r s' = and_then (PassesAll parts locals) (λ _. answers (Err halt.Departs)) s r s'
 
-    -- each in order, for their values
-    pub ReplaysAll : Expressions → Locals → Act (List Value)
-    ReplaysAll no_expressions locals s r s' = answers (Ok []) s r s'
-    ReplaysAll (an_expression e rest) locals s r s' =
+    -- each in order, for the values that are passed
+    pub ReplaysAll : Arguments → Locals → Act (List Value)
+    ReplaysAll no_arguments locals s r s' = answers (Ok []) s r s'
+    ReplaysAll (an_argument (passed e) rest) locals s r s' =
         and_then (Replays e locals) (λ v. and_then (ReplaysAll rest locals) (λ vs. answers (Ok (v ∷ vs)))) s r s'
+    ReplaysAll (an_argument (erased parts) rest) locals s r s' = and_then (PassesAll parts locals) (λ _. ReplaysAll rest locals) s r s'
 
     -- each in order, for its effects: its value isn't read, those below it are
     pub PassesAll : Expressions → Locals → Act ⊤

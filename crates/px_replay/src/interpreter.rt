@@ -1,9 +1,10 @@
-ghost use Rattle.std.specs.Prelude.{◌≡◌, map, option_map};
-ghost use Rattle.px_syntax.specs.TypedTree.{expressions_of, statements_of};
+ghost use Rattle.std.specs.Prelude.{◌≡◌, ◌++◌, List, map, option_map};
+ghost use Rattle.px_syntax.specs.TypedTree.{expressions_of, arguments_of, statements_of};
 ghost use Rattle.px_syntax.specs.TypedTree as tree;
-ghost use Rattle.px_syntax.specs.TypedViews.{typed_expression, typed_condition, typed_place, typed_statement, arithmetic_link, relation_link, calculated, compared, all_of, any_of};
+ghost use Rattle.px_syntax.specs.TypedViews.{typed_expression, typed_argument, typed_condition, typed_place, typed_statement, arithmetic_link, relation_link, calculated, compared, all_of, any_of};
 ghost use Rattle.px_syntax.specs.TypedViews as views;
-ghost use Rattle.px_replay.specs.Interpreted.{calls_of, types_in, ended, ends_turn, given};
+ghost use Rattle.px_meaning.specs.Values as value;
+ghost use Rattle.px_replay.specs.Interpreted.{calls_of, types_in, ended, ends_turn, given, given_these};
 ghost use Rattle.px_replay.specs.Locals.{locals_map};
 ghost use Rattle.px_replay.specs.Script.{plain_script, UnlessMemory};
 ghost use Rattle.px_replay.specs.TreeReplay.{Replays, ReplaysAll, PassesAll, Checks, checks_if, declares, assigns, updates, gives_back, calls_procedure, loops, ReplaysStatement, ReplaysStatements};
@@ -17,7 +18,7 @@ use crate::script::Script;
 use crate::stop::Stop;
 use px_base::{MarkKind, ProcId, Site};
 use px_syntax::{
-    Arithmetic, ArithmeticLink, CellLink, Condition, Place, Relation, RelationLink,
+    Argument, Arithmetic, ArithmeticLink, CellLink, Condition, Place, Relation, RelationLink,
     TypedExpression, TypedStatement,
 };
 use px_terms::Value;
@@ -185,23 +186,45 @@ fn cells(
     Ok(at)
 }
 
-// The values of arguments, in order.
+// The values of the arguments that are passed, in order.
 #[cycle(replay)]
 fn arguments(
     alloc: Global,
     callees: &Callees,
-    es: &[TypedExpression],
+    es: &[Argument],
     locals: &Locals,
     script: &mut Script,
 ) -> Result<Vec<Value>, Stop>
-    ensures { UnlessMemory result (ReplaysAll (types_in callees.now) (calls_of callees.now) (expressions_of (map typed_expression es.now)) (locals_map locals.now) (plain_script script.old) (given result) (plain_script script.new)) }
+    ensures { UnlessMemory result (ReplaysAll (types_in callees.now) (calls_of callees.now) (arguments_of (map typed_argument es.now)) (locals_map locals.now) (plain_script script.old) (given result) (plain_script script.new)) }
 {
     let mut values = Vec::with_capacity(alloc, es.len())?;
     for e in es {
-        let value = expression(alloc, callees, e, locals, script)?;
-        values.push(value)?;
+        argument(alloc, callees, e, locals, &mut values, script)?;
     }
     Ok(values)
+}
+
+// An argument. Its value, where it is passed, stands behind those that are there.
+#[cycle(replay)]
+#[tactic(auto, using(px_syntax::proofs::TypedEquations::typed_trees))]
+fn argument(
+    alloc: Global,
+    callees: &Callees,
+    e: &Argument,
+    locals: &Locals,
+    values: &mut Vec<Value>,
+    script: &mut Script,
+) -> Result<(), Stop>
+    ensures { UnlessMemory result ((more : List value.Value) × (values.new.items ≡ values.old.items ++ more) × ReplaysAll (types_in callees.now) (calls_of callees.now) (tree.an_argument (typed_argument e.now) tree.no_arguments) (locals_map locals.now) (plain_script script.old) (given_these more result) (plain_script script.new)) }
+{
+    match e {
+        Argument::Passed { value } => {
+            let given = expression(alloc, callees, value, locals, script)?;
+            values.push(given)?;
+            Ok(())
+        }
+        Argument::Erased { parts } => effects(alloc, callees, parts, locals, script),
+    }
 }
 
 // Whether a condition is true.

@@ -1,4 +1,6 @@
-ghost use Rattle.std.specs.Prelude.{◌≡◌, ◌++◌};
+ghost use Rattle.std.specs.Prelude.{◌≡◌, ◌++◌, ◌∷◌, IfOk};
+ghost use Rattle.px_terms.specs.declared.conjuncts.Content.TheVariants as content;
+ghost use Rattle.px_spelling.specs.Reading.{Gives, ◌<*>◌, done};
 ghost use Rattle.px_spelling.specs.Types.{var_bytes};
 ghost use Rattle.px_spelling.specs.Conjuncts.{place_bytes, IsPlace, place_at, content_bytes, IsContent, content_at, conj_bytes, IsConj, conj_at};
 
@@ -78,10 +80,7 @@ impl WireWith for Content {
         let (tag, rest) = u8::read(alloc, bytes)?;
         match tag {
             0 => Ok((Content::Unwritten, rest)),
-            1 => {
-                let (word, rest) = terms.read_polynomial(alloc, rest)?;
-                Ok((Content::Word(word), rest))
-            }
+            1 => read_word(terms, alloc, rest),
             2 => {
                 let (place, rest) = Place::read(alloc, rest)?;
                 Ok((Content::Place(place), rest))
@@ -102,6 +101,19 @@ impl WireWith for Content {
             Content::Cell(var) => var.is_in_range(),
         }
     }
+}
+
+// A word at the front, behind the byte that says that it is one.
+fn read_word<'a, S: Terms>(
+    terms: &S,
+    alloc: Global,
+    bytes: &'a [u8],
+) -> Result<(Content, &'a [u8]), WireFault>
+    ensures reads { Gives (λ x. (x.0, x.1.now)) result ((done content.Word <*> (S.spelling terms.now).at) bytes.now) }
+    ensures spelled { IfOk result (λ x. (1 ∷ bytes.now ≡ content_bytes (S.spelling terms.now) x.0 ++ x.1.now) × IsContent (S.spelling terms.now) x.0) }
+{
+    let (word, rest) = terms.read_polynomial(alloc, bytes)?;
+    Ok((Content::Word(word), rest))
 }
 
 impl WireWith for Option<Content> {

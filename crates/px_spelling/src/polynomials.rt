@@ -1,13 +1,15 @@
-ghost use Rattle.std.specs.Prelude.{◌≡◌, ◌↔◌, ◌++◌, true, length, map, IfOk};
+ghost use Rattle.std.specs.Prelude.{◌≡◌, ◌↔◌, ◌++◌, ◌≤◌, ℕ, List, true, length, map, Some, IfOk};
 ghost use Rattle.std.specs.List.{flat_map, AllByRecursion};
+ghost use Rattle.px_terms.specs.Terms.{Term};
 ghost use Rattle.px_terms.specs.Monomials.{term_of};
+ghost use Rattle.px_terms.specs.Polynomials.{most_degree};
 ghost use Rattle.px_spelling.specs.Reading.{Gives};
 ghost use Rattle.px_spelling.specs.Lists.{list_bytes, IsList, items_at, list_at};
 ghost use Rattle.px_spelling.specs.Polynomials.{term_bytes, IsTerm, term_at, polynomial_bytes, IsPolynomialInRange, polynomial_at};
 
 use crate::bounds::{MOST_DEGREE, MOST_MONOMIALS};
-use crate::{Output, Wire, WireFault, are_in_range, read_items, write_count, write_items};
-use px_terms::{Items, Monomial, PartsFault, Poly};
+use crate::{Output, Wire, WireFault, are_in_range, write_count, write_items};
+use px_terms::{Monomial, PartsFault, Poly};
 use std::alloc::Global;
 
 impl Wire for Poly {
@@ -62,7 +64,7 @@ fn read_all_monomials(
     ensures reads { Gives (λ x. (map term_of x.0.items, x.1.now)) result (items_at term_at count bytes.now) }
     ensures spelled { IfOk result (λ x. (bytes.now ≡ flat_map term_bytes (map term_of x.0.items) ++ x.1.now) × (length (map term_of x.0.items) ≡ count) × AllByRecursion IsTerm (map term_of x.0.items)) }
 {
-    let mut monomials = Vec::new(alloc);
+    let mut monomials = Vec::with_capacity(alloc, count as usize)?;
     let mut rest = bytes;
     for _ in 0..count {
         let (monomial, after) = read_monomial(alloc, rest)?;
@@ -73,14 +75,52 @@ fn read_all_monomials(
 }
 
 // The monomial at the front.
-#[tactic(auto, unfolding(crate::specs::Polynomials::term_at))]
+#[tactic(auto, unfolding(crate::specs::Polynomials::term_at, crate::specs::Lists::list_at, crate::specs::Lists::items_at))]
 fn read_monomial(alloc: Global, bytes: &[u8]) -> Result<(Monomial<4>, &[u8]), WireFault>
     ensures reads { Gives (λ x. (term_of x.0, x.1.now)) result (term_at bytes.now) }
     ensures spelled { IfOk result (λ x. (bytes.now ≡ term_bytes (term_of x.0) ++ x.1.now) × IsTerm (term_of x.0)) }
 {
     let (coefficient, rest) = u32::read(alloc, bytes)?;
-    let (vars, rest): (Items<u32>, &[u8]) = read_items(alloc, MOST_DEGREE, rest)?;
-    match Monomial::new(coefficient, vars.as_slice()) {
+    let (count, rest) = u32::read(alloc, rest)?;
+    match count {
+        0 => with_vars(coefficient, &[], rest),
+        1 => {
+            let (a, rest) = u32::read(alloc, rest)?;
+            with_vars(coefficient, &[a], rest)
+        }
+        2 => {
+            let (a, rest) = u32::read(alloc, rest)?;
+            let (b, rest) = u32::read(alloc, rest)?;
+            with_vars(coefficient, &[a, b], rest)
+        }
+        3 => {
+            let (a, rest) = u32::read(alloc, rest)?;
+            let (b, rest) = u32::read(alloc, rest)?;
+            let (c, rest) = u32::read(alloc, rest)?;
+            with_vars(coefficient, &[a, b, c], rest)
+        }
+        4 => {
+            let (a, rest) = u32::read(alloc, rest)?;
+            let (b, rest) = u32::read(alloc, rest)?;
+            let (c, rest) = u32::read(alloc, rest)?;
+            let (d, rest) = u32::read(alloc, rest)?;
+            with_vars(coefficient, &[a, b, c, d], rest)
+        }
+        _ => Err(WireFault::NotAMessage),
+    }
+}
+
+// The monomial of a coefficient and these variables, and the bytes after it.
+fn with_vars<'a>(
+    coefficient: u32,
+    vars: &[u32],
+    rest: &'a [u8],
+) -> Result<(Monomial<4>, &'a [u8]), WireFault>
+    requires { length vars.now ≤ most_degree }
+    ensures reads { Gives {Y = Term × List ℕ} (λ x. (term_of x.0, x.1.now)) result (Some (record { coefficient = coefficient; vars = vars.now }, rest.now)) }
+    ensures made { IfOk result (λ x. (term_of x.0 ≡ record { coefficient = coefficient; vars = vars.now }) × (x.1.now ≡ rest.now)) }
+{
+    match Monomial::new(coefficient, vars) {
         Some(monomial) => Ok((monomial, rest)),
         None => Err(WireFault::NotAMessage),
     }

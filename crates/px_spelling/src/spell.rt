@@ -168,8 +168,8 @@ impl<A: Wire, B: WireWith> WireWith for (A, B) {
     }
 }
 
-/// A list of at most so many items at the front, and the bytes after it. Room is taken item by item, so that a count
-/// that the bytes don't hold takes none.
+/// A list of at most so many items at the front, and the bytes after it. Room is taken at once for as many items as the
+/// bytes hold at four bytes each, so that a count that they don't hold takes no more.
 pub fn read_items<T: Wire>(
     alloc: Global,
     most: u32,
@@ -209,14 +209,19 @@ fn read_all<'a, T: WireWith, S: Terms>(
     ensures reads { Gives (λ x. (x.0, x.1.now)) result (items_at (T.at_with (S.spelling terms.now)) count bytes.now) }
     ensures spelled { IfOk result (λ x. (bytes.now ≡ flat_map (T.bytes_with (S.spelling terms.now)) x.0 ++ x.1.now) × (length x.0 ≡ count) × AllByRecursion (T.fits_with (S.spelling terms.now)) x.0) }
 {
-    let mut items = Items::new(alloc);
+    let mut items = Vec::with_capacity(alloc, room_of(count, bytes))?;
     let mut rest = bytes;
     for _ in 0..count {
         let (item, after) = T::read_with(terms, alloc, rest)?;
         items.push(item)?;
         rest = after;
     }
-    Ok((items, rest))
+    Ok((Items::from_vec(items), rest))
+}
+
+// How many items room is taken for at once, where so many are to come.
+fn room_of(count: u32, bytes: &[u8]) -> usize {
+    (bytes.len() / 4).min(count as usize)
 }
 
 // The word that a count is written as. No list of a message in range has 2^32 items; of such a count this is what the low

@@ -2,7 +2,7 @@ ghost use Rattle.std.specs.Prelude.{◌≡◌, option_map};
 ghost use Rattle.px_syntax.specs.ExpressionTree.{expression_tree};
 ghost use Rattle.px_syntax.specs.StatementTree.{simple_tree};
 ghost use Rattle.px_expressions.specs.Lexemes.{seen};
-ghost use Rattle.px_expressions.specs.Reading.{Gives};
+ghost use Rattle.px_expressions.specs.Reading.{Gives, or_else};
 ghost use Rattle.px_statements.specs.SimpleReading.{is_variable_tree, is_call_tree, opens, plain_lvalue_at, lvalue_at, update_of, update_front, assigned_at, call_at, simple_at};
 
 use px_expressions::{Fault, Input, Terminal, expression, front, members, primary, unary};
@@ -152,6 +152,65 @@ fn call<'a>(
     Ok((SimpleStatement::Call { call }, rest))
 }
 
+// What begins with a star: an lvalue that is given a value.
+fn starred_act<'a>(
+    alloc: Global,
+    depth: u32,
+    input: Input<'a>,
+) -> Result<(SimpleStatement, Input<'a>), Fault>
+    ensures { Gives (λ x. (simple_tree x.0, seen x.1)) result (or_else (lvalue_at depth (seen input.entry)) (λ x. assigned_at depth x.0 x.1) (call_at depth (seen input.entry))) }
+{
+    match lvalue(alloc, depth, input) {
+        Ok((place, rest)) => assigned(alloc, depth, place, rest),
+        Err(Fault::NoParse) => call(alloc, depth, input),
+        Err(Fault::NoMemory) => Err(Fault::NoMemory),
+    }
+}
+
+// What begins with no star: an lvalue that is given a value, or a call. The expression at the front is read once for both.
+#[tactic(auto, unfolding(crate::specs::SimpleReading::call_at), using(px_syntax::proofs::ExpressionEquations::trees))]
+fn plain_act<'a>(
+    alloc: Global,
+    depth: u32,
+    input: Input<'a>,
+) -> Result<(SimpleStatement, Input<'a>), Fault>
+    ensures { Gives (λ x. (simple_tree x.0, seen x.1)) result (or_else (plain_lvalue_at depth (seen input.entry)) (λ x. assigned_at depth x.0 x.1) (call_at depth (seen input.entry))) }
+{
+    let (first, rest) = primary(alloc, depth, input)?;
+    if front(Terminal::Arrow, rest).is_some() {
+        return match members(alloc, first, rest) {
+            Ok((place, rest)) => assigned(alloc, depth, place, rest),
+            Err(Fault::NoParse) => call(alloc, depth, input),
+            Err(Fault::NoMemory) => Err(Fault::NoMemory),
+        };
+    }
+    if opens(input) {
+        return Err(Fault::NoParse);
+    }
+    if is_variable(&first) {
+        return assigned(alloc, depth, first, rest);
+    }
+    if !is_call(&first) {
+        return Err(Fault::NoParse);
+    }
+    Ok((SimpleStatement::Call { call: first }, rest))
+}
+
+// An lvalue that is given a value, or a call.
+#[tactic(auto, unfolding(crate::specs::SimpleReading::lvalue_at))]
+fn act<'a>(
+    alloc: Global,
+    depth: u32,
+    input: Input<'a>,
+) -> Result<(SimpleStatement, Input<'a>), Fault>
+    ensures { Gives (λ x. (simple_tree x.0, seen x.1)) result (or_else (lvalue_at depth (seen input.entry)) (λ x. assigned_at depth x.0 x.1) (call_at depth (seen input.entry))) }
+{
+    match front(Terminal::Star, input) {
+        Some(_) => starred_act(alloc, depth, input),
+        None => plain_act(alloc, depth, input),
+    }
+}
+
 /// The simple statement at the front, without its semicolon.
 #[tactic(auto, unfolding(crate::specs::SimpleReading::simple_at))]
 pub fn simple<'a>(
@@ -169,9 +228,5 @@ pub fn simple<'a>(
         let (place, rest) = lvalue(alloc, depth, rest)?;
         return Ok((SimpleStatement::Decrement { place }, rest));
     }
-    match lvalue(alloc, depth, input) {
-        Ok((place, rest)) => assigned(alloc, depth, place, rest),
-        Err(Fault::NoParse) => call(alloc, depth, input),
-        Err(Fault::NoMemory) => Err(Fault::NoMemory),
-    }
+    act(alloc, depth, input)
 }

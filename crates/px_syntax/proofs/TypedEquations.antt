@@ -10,21 +10,28 @@ use Rattle.px_syntax.specs.declared.typed_expression.Relation.{Relation}
 use Rattle.px_syntax.specs.declared.typed_expression.CellLink.{CellLink}
 use Rattle.px_syntax.specs.declared.typed_expression.ArithmeticLink.{ArithmeticLink}
 use Rattle.px_syntax.specs.declared.typed_expression.RelationLink.{RelationLink}
-use Rattle.px_syntax.specs.declared.typed_expression.TypedExpression.{TypedExpression, Row_of-TypedExpression, end_of-TypedExpression, more_of-TypedExpression, items-the_row-TypedExpression, Row_of-ArithmeticLink, end_of-ArithmeticLink, more_of-ArithmeticLink, items-the_row-ArithmeticLink}
+use Rattle.px_syntax.specs.declared.typed_expression.TypedExpression.{TypedExpression, Row_of-TypedExpression, end_of-TypedExpression, more_of-TypedExpression, items-the_row-TypedExpression, Row_of-ArithmeticLink, end_of-ArithmeticLink, more_of-ArithmeticLink, items-the_row-ArithmeticLink, Row_of-Argument, end_of-Argument, more_of-Argument, items-the_row-Argument}
 use Rattle.px_syntax.specs.declared.typed_expression.TypedExpression as E
 use Rattle.px_syntax.specs.declared.typed_expression.TypedExpression.TheVariants as Expressions
+use Rattle.px_syntax.specs.declared.typed_expression.Argument.{Argument}
+use Rattle.px_syntax.specs.declared.typed_expression.Argument as A
+use Rattle.px_syntax.specs.declared.typed_expression.Argument.TheVariants as Arguments
 use Rattle.px_syntax.specs.declared.typed_expression.Condition.{Condition, Row_of-RelationLink, end_of-RelationLink, more_of-RelationLink, items-the_row-RelationLink, Row_of-Condition, end_of-Condition, more_of-Condition, items-the_row-Condition}
 use Rattle.px_syntax.specs.declared.typed_expression.Condition as C
 use Rattle.px_syntax.specs.declared.typed_expression.Condition.TheVariants as Conditions
 use Rattle.px_syntax.specs.declared.typed_statement.TypedStatement.{TypedStatement, Row_of-TypedStatement, end_of-TypedStatement, more_of-TypedStatement, items-the_row-TypedStatement}
 use Rattle.px_syntax.specs.declared.typed_statement.TypedStatement as S
 use Rattle.px_syntax.specs.declared.typed_statement.TypedStatement.TheVariants as Statements
-use Rattle.px_syntax.specs.TypedTree.{an_expression, a_statement, expressions_of, statements_of, call, stop, block, arithmetic, cell, compare, both, either}
-use Rattle.px_syntax.specs.TypedViews.{typed_expression, typed_row, typed_condition, typed_statement, typed_rows, arithmetic_row, relation_row, condition_row, arithmetic_link, relation_link, calculated, compared, cells, all_of, any_of}
+use Rattle.px_syntax.specs.TypedTree.{an_expression, an_argument, erased, a_statement, expressions_of, arguments_of, statements_of, call, stop, block, arithmetic, cell, compare, both, either}
+use Rattle.px_syntax.specs.TypedViews.{typed_expression, typed_row, typed_argument, typed_arguments, typed_condition, typed_statement, typed_rows, arithmetic_row, relation_row, condition_row, arithmetic_link, relation_link, calculated, compared, cells, all_of, any_of}
 
 pub row_is : (n : _) (k : Row_of-TypedExpression n) → typed_row k ≡ expressions_of (map typed_expression (items-the_row-TypedExpression n k))
 row_is _ end_of-TypedExpression = refl
 row_is _ (more_of-TypedExpression e rest) = ap (an_expression (typed_expression e)) (row_is _ rest)
+
+pub arguments_are : (n : _) (k : Row_of-Argument n) → typed_arguments k ≡ arguments_of (map typed_argument (items-the_row-Argument n k))
+arguments_are _ end_of-Argument = refl
+arguments_are _ (more_of-Argument a rest) = ap (an_argument (typed_argument a)) (arguments_are _ rest)
 
 pub rows_are : (n : _) (k : Row_of-TypedStatement n) → typed_rows k ≡ statements_of (map typed_statement (items-the_row-TypedStatement n k))
 rows_are _ end_of-TypedStatement = refl
@@ -51,9 +58,12 @@ pub typed-Cell : (p : Box TypedExpression Global) (before : Vec CellLink Global)
     typed_expression (Expressions.Cell p before f t s) ≡ cell (cells (typed_expression p.value) before.items) f t s
 typed-Cell p before f t s = search (rules, E.the_lemmas)
 
-pub typed-Call : (proc : ProcId) (v : Vec TypedExpression Global) (result : ValueType) (site : Site) →
-    typed_expression (Expressions.Call proc v result site) ≡ call proc (expressions_of (map typed_expression v.items)) result site
-typed-Call proc v result site = search (rules, E.the_lemmas, row_is)
+pub typed-Call : (proc : ProcId) (v : Vec Argument Global) (result : ValueType) (site : Site) →
+    typed_expression (Expressions.Call proc v result site) ≡ call proc (arguments_of (map typed_argument v.items)) result site
+typed-Call proc v result site = search (rules, E.the_lemmas, arguments_are)
+
+pub typed-Erased : (v : Vec TypedExpression Global) → typed_argument (Arguments.Erased v) ≡ erased (expressions_of (map typed_expression v.items))
+typed-Erased v = search (rules, A.the_lemmas, row_is)
 
 pub typed-Stop : (word : ℕ) (site : Site) (v : Vec TypedExpression Global) → typed_expression (Expressions.Stop word site v) ≡ stop word site (expressions_of (map typed_expression v.items))
 typed-Stop word site v = search (rules, E.the_lemmas, row_is)
@@ -74,4 +84,4 @@ typed-Or first before right = search (rules, C.the_lemmas, conditions_are)
 pub typed-Block : (v : Vec TypedStatement Global) → typed_statement (Statements.Block v) ≡ block (statements_of (map typed_statement v.items))
 typed-Block v = search (rules, S.the_lemmas, rows_are)
 
-pub ruleset typed_trees = (typed-Arithmetic, typed-Cell, typed-Call, typed-Stop, typed-Compare, typed-And, typed-Or, typed-Block)
+pub ruleset typed_trees = (typed-Arithmetic, typed-Cell, typed-Call, typed-Erased, typed-Stop, typed-Compare, typed-And, typed-Or, typed-Block)

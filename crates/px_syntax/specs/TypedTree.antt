@@ -25,13 +25,22 @@ mutual
     allocate : TypeId → Site → Expression
     get_char : Site → Expression
     -- with the type of the value
-    call : ProcId → Expressions → ValueType → Site → Expression
+    call : ProcId → Arguments → ValueType → Site → Expression
     -- what isn't understood, of any type, by the number of its word; its parts are evaluated for their effects
     stop : ℕ → Site → Expressions → Expression
 
   pub data Expressions : Type 0 where
     no_expressions : Expressions
     an_expression : Expression → Expressions → Expressions
+
+  pub data Arguments : Type 0 where
+    no_arguments : Arguments
+    an_argument : Argument → Arguments → Arguments
+
+  pub data Argument : Type 0 where
+    passed : Expression → Argument
+    -- of a parameter that the procedure doesn't have: its parts are evaluated for their effects, and nothing is passed
+    erased : Expressions → Argument
 
   pub data Condition : Type 0 where
     compare : Relation → Expression → Expression → Site → Condition
@@ -53,7 +62,7 @@ mutual
     declare : ℕ → Option Expression → Statement
     assign : Place → Expression → Statement
     update : Arithmetic → Place → Expression → Statement
-    run_call : ProcId → Expressions → Site → Statement
+    run_call : ProcId → Arguments → Site → Statement
     free : Expression → TypeId → Site → Statement
     input : Site → Statement
     choose : Condition → Statement → Statement → Statement
@@ -72,6 +81,10 @@ mutual
 abbrev pub expressions_of : List Expression → Expressions
 expressions_of [] = no_expressions
 expressions_of (e ∷ rest) = an_expression e (expressions_of rest)
+
+abbrev pub arguments_of : List Argument → Arguments
+arguments_of [] = no_arguments
+arguments_of (a ∷ rest) = an_argument a (arguments_of rest)
 
 abbrev pub statements_of : List Statement → Statements
 statements_of [] = no_statements

@@ -6,7 +6,8 @@ use Rattle.px_syntax.specs.declared.typed_expression.Relation.{Relation}
 use Rattle.px_syntax.specs.declared.typed_expression.CellLink.{CellLink}
 use Rattle.px_syntax.specs.declared.typed_expression.ArithmeticLink.{ArithmeticLink}
 use Rattle.px_syntax.specs.declared.typed_expression.RelationLink.{RelationLink}
-use Rattle.px_syntax.specs.declared.typed_expression.TypedExpression.{TypedExpression, Row_of-TypedExpression, end_of-TypedExpression, more_of-TypedExpression, Row_of-ArithmeticLink, end_of-ArithmeticLink, more_of-ArithmeticLink}
+use Rattle.px_syntax.specs.declared.typed_expression.Argument as A
+use Rattle.px_syntax.specs.declared.typed_expression.TypedExpression.{TypedExpression, Row_of-TypedExpression, end_of-TypedExpression, more_of-TypedExpression, Row_of-ArithmeticLink, end_of-ArithmeticLink, more_of-ArithmeticLink, Row_of-Argument, end_of-Argument, more_of-Argument}
 use Rattle.px_syntax.specs.declared.typed_expression.Condition.{Row_of-RelationLink, end_of-RelationLink, more_of-RelationLink, Row_of-Condition, end_of-Condition, more_of-Condition}
 use Rattle.px_syntax.specs.declared.typed_expression.TypedExpression as E
 use Rattle.px_syntax.specs.declared.typed_expression.Condition as C
@@ -14,7 +15,7 @@ use Rattle.px_syntax.specs.declared.typed_statement.Place.TheVariants as P
 use Rattle.px_syntax.specs.declared.typed_statement.TypedStatement.{TypedStatement, Row_of-TypedStatement, end_of-TypedStatement, more_of-TypedStatement}
 use Rattle.px_syntax.specs.declared.typed_statement.TypedStatement as S
 use Rattle.px_syntax.specs.declared.typed_statement.Place.{Place as RustPlace}
-use Rattle.px_syntax.specs.TypedTree.{Expression, constant, null, local, negated, arithmetic, truth, cell, allocate, get_char, call, stop, Expressions, no_expressions, an_expression, Condition, compare, word, pointer, both, either, opposite, Place, local_place, cell_place, Statement, block, declare, assign, update, run_call, free, input, choose, loop, break, continue, return, evaluate, Statements, no_statements, a_statement, expressions_of}
+use Rattle.px_syntax.specs.TypedTree.{Expression, constant, null, local, negated, arithmetic, truth, cell, allocate, get_char, call, stop, Expressions, no_expressions, an_expression, Arguments, no_arguments, an_argument, Argument, passed, erased, Condition, compare, word, pointer, both, either, opposite, Place, local_place, cell_place, Statement, block, declare, assign, update, run_call, free, input, choose, loop, break, continue, return, evaluate, Statements, no_statements, a_statement, arguments_of}
 
 -- an operator and the operand after it
 pub record ArithmeticLinkTree : Type 0 where
@@ -60,13 +61,22 @@ abbrev mutual
   typed_expression (E.Cell' p at before field t site) = cell (cells (typed_expression at) before.items) field t site
   typed_expression (E.Allocate t site) = allocate t site
   typed_expression (E.GetChar site) = get_char site
-  typed_expression (E.Call' proc shape arguments result site) = call proc (typed_row arguments) result site
+  typed_expression (E.Call' proc shape arguments result site) = call proc (typed_arguments arguments) result site
   typed_expression (E.Stop' number site shape parts) = stop number site (typed_row parts)
 
   -- the expressions of a row
   pub typed_row : {m : _} → Row_of-TypedExpression m → Expressions
   typed_row end_of-TypedExpression = no_expressions
   typed_row (more_of-TypedExpression e rest) = an_expression (typed_expression e) (typed_row rest)
+
+  pub typed_argument : A.Argument → Argument
+  typed_argument (A.Passed value) = passed (typed_expression value)
+  typed_argument (A.Erased' shape parts) = erased (typed_row parts)
+
+  -- the arguments of a row
+  pub typed_arguments : {m : _} → Row_of-Argument m → Arguments
+  typed_arguments end_of-Argument = no_arguments
+  typed_arguments (more_of-Argument a rest) = an_argument (typed_argument a) (typed_arguments rest)
 
   pub typed_condition : C.Condition → Condition
   typed_condition (C.Compare' p first shape before relation q right site) = compare relation (compared (typed_expression first) (relation_row before)) (typed_expression right) site
@@ -105,7 +115,7 @@ abbrev mutual
   typed_statement (S.Declare number value) = declare number (option_map (λ b. typed_expression b.value) value)
   typed_statement (S.Assign place value) = assign (typed_place place) (typed_expression value.value)
   typed_statement (S.Update operator place value) = update operator (typed_place place) (typed_expression value.value)
-  typed_statement (S.Call proc arguments site) = run_call proc (expressions_of (map typed_expression arguments.items)) site
+  typed_statement (S.Call proc arguments site) = run_call proc (arguments_of (map typed_argument arguments.items)) site
   typed_statement (S.Free at t site) = free (typed_expression at.value) t site
   typed_statement (S.GetChar site) = input site
   typed_statement (S.If' condition p then' q other) = choose (typed_condition condition.value) (typed_statement then') (typed_statement other)

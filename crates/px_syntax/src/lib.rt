@@ -24,6 +24,7 @@ pub use statement::{
 };
 pub use type_name::{Base, Declarator, TypeName};
 pub use typed_expression::{
-    Arithmetic, ArithmeticLink, CellLink, Condition, Relation, RelationLink, TypedExpression,
+    Argument, Arithmetic, ArithmeticLink, CellLink, Condition, Relation, RelationLink,
+    TypedExpression,
 };
 pub use typed_statement::{Place, TypedStatement};

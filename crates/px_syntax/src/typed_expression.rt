@@ -110,7 +110,7 @@ pub enum TypedExpression {
     /// The value of a call, and its type. The site is the called word.
     Call {
         proc: ProcId,
-        arguments: Vec<TypedExpression>,
+        arguments: Vec<Argument>,
         result: ValueType,
         site: Site,
     },
@@ -121,6 +121,17 @@ pub enum TypedExpression {
         site: Site,
         parts: Vec<TypedExpression>,
     },
+}
+
+/// An argument of a call. Arguments are evaluated in order, whatever is passed of them.
+#[cycle(typed)]
+#[derive(Drop)]
+pub enum Argument {
+    /// The value of the next parameter.
+    Passed { value: TypedExpression },
+    /// The argument of a parameter that the procedure doesn't have, since it is of no type that is understood. Its parts are
+    /// evaluated in order, for their effects, and nothing is passed.
+    Erased { parts: Vec<TypedExpression> },
 }
 
 /// What is true or false: each condition of a statement, and what `&&`, `||`, `!` and comparisons give.

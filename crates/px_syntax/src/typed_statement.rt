@@ -1,4 +1,4 @@
-use crate::{Arithmetic, Condition, TypedExpression};
+use crate::{Argument, Arithmetic, Condition, TypedExpression};
 use px_base::{FieldId, ProcId, Site};
 use px_terms::TypeId;
 
@@ -45,7 +45,7 @@ pub enum TypedStatement {
     /// A call whose result isn't used. The site is the called word.
     Call {
         proc: ProcId,
-        arguments: Vec<TypedExpression>,
+        arguments: Vec<Argument>,
         site: Site,
     },
     /// `free ( pointer )` of a pointer to this block type, at the word `free`.

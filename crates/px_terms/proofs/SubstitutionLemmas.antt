@@ -1,21 +1,24 @@
 -- What stands for variables, and what a substitution gathers.
-use Rattle.std.proofs.Common.{◌≡◌, ◌<◌, ◌≤◌, ◌+◌, ◌*◌, ◌%◌, ◌^◌, ◌++◌, ℕ, List, [], ◌∷◌, length, get_or, take, drop, ◌-◌, map, get_or-take, length-take, refl, ap, ap₂, sym, ◌∙◌, arith, add-one, drop-cons, append_assoc, append-nil}
-use Rattle.std.specs.Prelude.{suc, cond, true, false, Bool, Some, None, flat_map}
+use Rattle.std.proofs.Common.{◌≡◌, ◌<◌, ◌≤◌, ◌+◌, ◌*◌, ◌%◌, ◌^◌, ◌++◌, ℕ, List, [], ◌∷◌, length, get_or, take, drop, ◌-◌, map, get_or-take, length-take, refl, ap, ap₂, sym, subst, ◌∙◌, arith, add-one, drop-cons, append_assoc, append-nil}
+use Rattle.std.specs.Prelude.{suc, cond, true, false, Bool, Some, None, All, flat_map}
 use Rattle.std.specs.Ordering.{is_eq}
 use Rattle.std.proofs.Math.ListN.{drop_of_length-le}
 use Rattle.std.proofs.lemmas.Bool.{ne_eqb}
-use Rattle.std.proofs.lemmas.List.{map-append}
+use Rattle.std.proofs.lemmas.List.{map-append, take_more, length-map, get_or-map}
 use Rattle.std.proofs.lemmas.Nat.{mul-mod_first, mul-mod_second}
 use Rattle.px_terms.specs.Rows.{scalar_of}
 use Rattle.px_terms.specs.Monomials.{term_of}
 use Rattle.px_terms.specs.declared.monomial.Monomial.{Monomial}
-use Rattle.px_terms.specs.Terms.{Term, key_cmp, in_order, ordered, coefficient_at, value_at, product_at}
+use Rattle.px_terms.specs.Terms.{Term, key_cmp, in_order, ordered, coefficient_at, value_at, product_at, HasOrderedVariables}
 use Rattle.px_terms.specs.Polynomials.{Polynomial, IsPolynomial, terms_of, normal_form, term_product, pairs, product_of, value_of}
 use Rattle.px_terms.specs.Substitutions.{content_for, image_of, expansion, substituted, substitution_of, images_at}
+use Rattle.px_terms.specs.Wides.{wide_of}
+use Rattle.px_terms.specs.declared.wide.Wide.{Wide}
 use Rattle.px_terms.specs.declared.variables.Var.{Var}
 use Rattle.px_terms.specs.declared.conjuncts.Content.{Content}
 use Rattle.px_terms.proofs.Gathering.{sum_both, coefficient_append, value_append}
-use Rattle.px_terms.proofs.NormalForm.{form_polynomial, form_coefficient, form_alike, form_value, terms_ordered}
+use Rattle.px_terms.proofs.NormalForm.{form_polynomial, form_coefficient, form_alike, form_stays, form_value, terms_ordered}
+use Rattle.px_terms.proofs.Degrees.{key_length}
 use Rattle.px_terms.proofs.Sums.{terms_value}
 use Rattle.px_terms.proofs.PolyProducts.{pairs_value, scaled_value}
 use Rattle.px_terms.proofs.Evaluation.{taken_more}
@@ -124,6 +127,41 @@ total_more with c ms i m old product new h e f g n =
     ∙ sum_of_forms done (expansion with (term_of m).vars) m.coefficient
     ∙ ap normal_form (sym (ap (λ zs. flat_map (substituted with) (record { coefficient = c; vars = [] } ∷ zs)) (taken_more ms i m h e)
     ∙ flat_last (substituted with) (record { coefficient = c; vars = [] } ∷ map term_of (take i ms)) (term_of m)))
+
+-- a polynomial on the way whose monomials are lent
+pub lent_terms : {n : ℕ} (w : Wide n) (ms : List (Monomial n)) (p : Polynomial) → ms ≡ w.monomials.items → wide_of w ≡ p → record { constant = w.constant; monomials = map term_of ms } ≡ p
+lent_terms {n} w ms p e f = ap (λ (zs : List (Monomial n)). record { constant = w.constant; monomials = map term_of zs }) e ∙ f
+
+-- ---- monomials of one variable
+
+pairs_one : (ts : List Term) → pairs ts (record { coefficient = 1; vars = [] } ∷ []) ≡ ts
+pairs_one [] = refl
+pairs_one (t ∷ ts) = ap₂ ◌∷◌ (ap (λ c. record { coefficient = c; vars = t.vars }) (once t.coefficient)) (pairs_one ts)
+  where
+    once : (c : ℕ) → c * 1 ≡ c
+    once c = grind arith
+
+-- what comes in the place of one variable is no product
+pub image_alone : (with : List (Var × Content)) (x : ℕ) (xs : List ℕ) → IsPolynomial (image_of with x) → xs ≡ x ∷ [] → image_of with x ≡ normal_form (expansion with xs)
+image_alone with x xs n e =
+    sym (form_stays (image_of with x) n) ∙ ap normal_form (sym (pairs_one (terms_of (image_of with x)))) ∙ ap (λ z. normal_form (expansion with z)) (sym e)
+
+-- a monomial of a polynomial of degree 1 is one variable
+pub one_variable : (c : ℕ) (ms : List (Monomial 4)) (i : ℕ) (m : Monomial 4) → i < length ms → m ≡ get_or ms i m
+    → IsPolynomial (record { constant = c; monomials = map term_of ms }) → All (λ x. x.degree ≤ 1) ms → (term_of m).vars ≡ get_or m.vars 0 0 ∷ []
+one_variable c ms i m h e form low =
+    let ordered : HasOrderedVariables (term_of m) =
+    subst HasOrderedVariables (get_or-map term_of ms i m (term_of m) h ∙ ap term_of (sym e))
+    (form.monomials.variables i (term_of m) (let k = length-map ms (term_of {n = 4}) in omega arith)) in
+    let some = ordered.0 in
+    let few : m.degree ≤ 1 = subst (λ (x : Monomial 4). x.degree ≤ 1) (sym e) (low i m h) in
+    let same = key_length m in
+    let one : m.degree ≡ 1 = omega arith in
+    let room = m.room in
+    ap (λ d. take d m.vars) one ∙ take_more m.vars 0 0 (omega arith)
+
+pub has_alone : (P : ℕ → Type 0) (xs : List ℕ) (x : ℕ) → xs ≡ x ∷ [] → All P xs → P x
+has_alone P xs x e all = subst (All P) e all 0 x (omega arith)
 
 -- ---- values
 

@@ -12,7 +12,7 @@ use crate::monomial::Monomial;
 use crate::parts::{is_normal, same_monomials};
 use crate::product::{degree_of, product, scalar};
 use crate::sizes::resized_all;
-use crate::wide::substitute_all;
+use crate::wide::{substitute_all, substitute_linear};
 use crate::{Content, NoMemory, PartsFault, TermFault, Var};
 use std::alloc::Global;
 use std::marker::Model;
@@ -202,9 +202,48 @@ impl Poly {
         ensures short { IfOk result (λ p. IsWithinLimits p) }
         ensures long { IsErrOf result fault.Long → IsTooLong (substitution_of with.now self.now) }
     {
-        let wide = substitute_all(self.alloc, self.constant, &self.monomials, with)?;
-        narrowed(self.alloc, wide.constant, &wide.monomials)
+        let all = &self.monomials;
+        if degree_of(all) <= 1 {
+            linear_substitution(self.alloc, self.constant, all, with)
+        } else {
+            wide_substitution(self.alloc, self.constant, all, with)
+        }
     }
+}
+
+// What a substitution gives where no monomial has two variables.
+fn linear_substitution(
+    alloc: Global,
+    constant: u32,
+    monomials: &[Monomial<4>],
+    with: &[(Var, Content)],
+) -> Result<Poly, TermFault>
+    requires form { IsPolynomial (record { constant = constant; monomials = map term_of monomials.now }) }
+    requires words { StandsForWords with.now (record { constant = constant; monomials = map term_of monomials.now }) }
+    requires linear { All (λ m. m.degree ≤ 1) monomials.now }
+    ensures form { IfOk result (λ p. p ≡ substitution_of with.now (record { constant = constant; monomials = map term_of monomials.now })) }
+    ensures short { IfOk result (λ p. IsWithinLimits p) }
+    ensures long { IsErrOf result fault.Long → IsTooLong (substitution_of with.now (record { constant = constant; monomials = map term_of monomials.now })) }
+{
+    let sum = substitute_linear(alloc, constant, monomials, with)?;
+    within_limits(alloc, sum.constant, sum.into_monomials())
+}
+
+// What a substitution gives where monomials may have several variables.
+fn wide_substitution(
+    alloc: Global,
+    constant: u32,
+    monomials: &[Monomial<4>],
+    with: &[(Var, Content)],
+) -> Result<Poly, TermFault>
+    requires form { IsPolynomial (record { constant = constant; monomials = map term_of monomials.now }) }
+    requires words { StandsForWords with.now (record { constant = constant; monomials = map term_of monomials.now }) }
+    ensures form { IfOk result (λ p. p ≡ substitution_of with.now (record { constant = constant; monomials = map term_of monomials.now })) }
+    ensures short { IfOk result (λ p. IsWithinLimits p) }
+    ensures long { IsErrOf result fault.Long → IsTooLong (substitution_of with.now (record { constant = constant; monomials = map term_of monomials.now })) }
+{
+    let wide = substitute_all(alloc, constant, monomials, with)?;
+    narrowed(alloc, wide.constant, &wide.monomials)
 }
 
 // The product of two polynomials whose degrees leave room.

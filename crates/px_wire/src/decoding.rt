@@ -25,8 +25,8 @@ use std::alloc::Global;
 /// More than any number of four bytes.
 pub const ANY_TYPES: usize = 4_294_967_296;
 
-/// The message that these bytes spell. `NotAMessage` comes exactly where they spell none; else `NoMemory`. Room is taken
-/// for what was read, so that a count which the bytes don't hold takes none.
+/// The message that these bytes spell. `NotAMessage` comes exactly where they spell none; else `NoMemory`. A list
+/// takes no room for more items than the bytes hold at four bytes each, or than twice as many as were read.
 #[tactic(auto, unfolding(crate::specs::Readers::message_in))]
 pub fn decode(alloc: Global, bytes: &[u8]) -> Result<Message, WireFault>
     ensures spelled { IsDecoded bytes.now result }

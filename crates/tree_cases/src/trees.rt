@@ -1,15 +1,15 @@
 use anyhow::{Context, Result, bail};
 use px_base::{FieldId, ProcId, Site};
 use px_syntax::{
-    Arithmetic, CellLink, Condition, Place, Relation, TypedExpression, TypedStatement,
+    Argument, Arithmetic, CellLink, Condition, Place, Relation, TypedExpression, TypedStatement,
 };
 use px_terms::{TypeId, ValueType};
 use std::alloc::Global;
 
-// The trees that were read and aren't a part of another one yet.
+// The trees that were read and aren't a part of another one yet. An expression stands as the argument that it is passed as.
 #[derive(Drop)]
 struct Reading {
-    expressions: Vec<TypedExpression>,
+    expressions: Vec<Argument>,
     conditions: Vec<Condition>,
     statements: Vec<TypedStatement>,
 }
@@ -27,7 +27,7 @@ struct Word<'a> {
 ///
 /// Expressions: a constant; `null`; `local.L`; `negate`, `add`, `subtract`, `multiply`; `truth` of a condition; `cell.F.T`, the
 /// field F of a block of type T; `malloc.T`; `getchar`; `call.P.N` of the function P with N arguments, which gives an `int`; and
-/// `stop.W.N`, what isn't understood, with the number of its word and N parts.
+/// `stop.W.N`, what isn't understood, with the number of its word and N parts. An argument may be `erased.N`, with N parts.
 ///
 /// Conditions: `equal`, `unequal`, `less`, `greater`, `most`, `least`, `same` and `apart` of two expressions; `word` and
 /// `pointer` of one; `and`, `or`, `not`.
@@ -83,8 +83,11 @@ fn number_at(word: &Word, place: usize) -> Result<u32> {
 }
 
 fn read(alloc: Global, word: &Word, reading: &mut Reading) -> Result<()> {
-    if let Some(e) = expression(alloc, word, reading)? {
-        reading.expressions.push(e)?;
+    if word.name == "erased" {
+        let parts = parts(alloc, reading, number_at(word, 0)?)?;
+        reading.expressions.push(Argument::Erased { parts })?;
+    } else if let Some(value) = expression(alloc, word, reading)? {
+        reading.expressions.push(Argument::Passed { value })?;
     } else if let Some(c) = condition(alloc, word, reading)? {
         reading.conditions.push(c)?;
     } else {
@@ -103,7 +106,23 @@ fn last<T: Drop>(all: &mut Vec<T>, count: u32) -> Result<Vec<T>> {
 }
 
 fn value(reading: &mut Reading) -> Result<TypedExpression> {
-    reading.expressions.pop().context("no expression")
+    value_of(reading.expressions.pop().context("no expression")?)
+}
+
+fn value_of(argument: Argument) -> Result<TypedExpression> {
+    match argument {
+        Argument::Passed { value } => Ok(value),
+        Argument::Erased { .. } => bail!("no value"),
+    }
+}
+
+// The expressions that were read last, in order.
+fn parts(alloc: Global, reading: &mut Reading, count: u32) -> Result<Vec<TypedExpression>> {
+    let mut parts = Vec::new(alloc);
+    for argument in last(&mut reading.expressions, count)? {
+        parts.push(value_of(argument)?)?;
+    }
+    Ok(parts)
 }
 
 fn boxed(alloc: Global, reading: &mut Reading) -> Result<Box<TypedExpression>> {
@@ -135,7 +154,7 @@ fn expression(
         return Ok(Some(TypedExpression::arithmetic(alloc, operator, left, right)?));
     }
     if word.name == "stop" || word.name == "call" {
-        return Ok(Some(with_parts(word, reading)?));
+        return Ok(Some(with_parts(alloc, word, reading)?));
     }
     simple(alloc, word, reading)
 }
@@ -151,19 +170,19 @@ fn operator(word: &Word) -> Option<Arithmetic> {
     }
 }
 
-fn with_parts(word: &Word, reading: &mut Reading) -> Result<TypedExpression> {
+fn with_parts(alloc: Global, word: &Word, reading: &mut Reading) -> Result<TypedExpression> {
     let number = number_at(word, 0)?;
-    let parts = last(&mut reading.expressions, number_at(word, 1)?)?;
+    let count = number_at(word, 1)?;
     if word.name == "stop" {
         return Ok(TypedExpression::Stop {
             word: number,
             site: word.site,
-            parts,
+            parts: parts(alloc, reading, count)?,
         });
     }
     Ok(TypedExpression::Call {
         proc: ProcId(number),
-        arguments: parts,
+        arguments: last(&mut reading.expressions, count)?,
         result: ValueType::Int,
         site: word.site,
     })

@@ -1,6 +1,6 @@
 use Rattle.std.proofs.Common.{◌≡◌, ◌∙◌, refl, ap, subst, map, Some, arith, rules}
 use Rattle.px_syntax.specs.ExpressionTree.{expression_tree, expressions_of, link_tree, chained, members}
-use Rattle.px_syntax.specs.TypedViews.{typed_expression}
+use Rattle.px_syntax.specs.TypedViews.{typed_expression, typed_argument}
 use Rattle.px_syntax.proofs.ExpressionEquations.{tree-Binary, tree-Member, tree-Call}
 use Rattle.px_bodies.specs.Environment.{environment_of}
 use Rattle.px_bodies.specs.Types.{given}
@@ -14,13 +14,13 @@ use Rattle.px_bodies.proofs.expressions.+operand.Goals as goal
 pub arguments-loop-i-preserved : goal.arguments-loop-i-preserved
 arguments-loop-i-preserved t c =
     arguments-step (environment_of c.args.environment.now) c.args.locals.now.visible c.args.given.now c.loop-i.i c.index-given-i.result (wanted_of c.args.wanted)
-    (operand_seen c.in_ok-argument.argument) (typed_expression c.in_ok-as_argument.field-0) (map typed_expression c.loop-i.all.items) (map typed_expression c.put.new.all.items) _
+    (operand_seen c.in_ok-argument.argument) (typed_expression c.in_ok-as_argument.field-0) (map typed_argument c.loop-i.all.items) (map typed_argument c.put.new.all.items) _
     c.loop-i-test.true c.index-given-i.is c.in_ok-argument.ensures c.in_ok-as_argument.ensures c.in_ok-put.ensures c.loop-i.invariant
 
 pub arguments-returns-in-Some : goal.arguments-returns-in-Some
 arguments-returns-in-Some t c =
     arguments-missing (environment_of c.args.environment.now) c.args.locals.now.visible c.args.given.now c.loop-i.i c.args.wanted c.in-Some.parameters
-    (map typed_expression c.loop-i.all.items) _ (omega arith) c.in-Some.is (omega arith) c.loop-i.invariant
+    (map typed_argument c.loop-i.all.items) _ (omega arith) c.in-Some.is (omega arith) c.loop-i.invariant
 
 pub links-returns-in_err-right : goal.links-returns-in_err-right
 links-returns-in_err-right t c e h s =
@@ -141,7 +141,7 @@ operand-returns-in_ok-given-in-Call t c =
     let k = c.in-Call in
     let w = wanted_of c.in_ok-wanted-in-Call.wanted in
     let es = expressions_of (map expression_tree k.given.items) in
-    let xs = map typed_expression c.in_ok-given-in-Call.given.items in
+    let xs = map typed_argument c.in_ok-given-in-Call.given.items in
     let arguments_are : typed_arguments env visible w es ≡ Some xs = search rules in
     let callee : callable env visible k.function ≡ Some w = search rules in
     let gives : Yields operand_seen c.call.result (typed_call env k.function k.site xs) = search rules in

@@ -7,7 +7,7 @@ use Rattle.px_syntax.specs.TypedViews.{typed_expression, typed_condition, arithm
 use Rattle.px_lower.specs.Lowering.{copied, lowered_expression, lowered_passed, lowered_condition}
 use Rattle.px_lower.specs.Chains.{GivesAll, Does}
 use Rattle.px_lower.proofs.Chains.{calculated_step, calculated_stops, calculated_all, compared_step, compared_stops, compared_all, cells_step, cells_all, cells_fails, all_step, any_step, holds_all}
-use Rattle.px_lower.proofs.Arms.{handed_on, out_of_memory, operand, next, slot, after, operands, behind, nothing, itself, of_tree, negate_fails, negate_returns, first_operand_fails, left_operand_fails, right_operand_fails, arithmetic_returns, condition_fails, truth_returns, pointer_fails, cell_returns, passed_pointer_fails, passed_cell_returns, arguments_fail, call_returns, passed_arguments_fail, passed_call_returns, parts_fail, stop_returns, plain_seen, passed_plain_fails, passed_plain_returns}
+use Rattle.px_lower.proofs.Arms.{handed_on, out_of_memory, operand, next, slot, after, operands, behind, nothing, itself, of_tree, negate_fails, negate_returns, first_operand_fails, left_operand_fails, right_operand_fails, arithmetic_returns, condition_fails, truth_returns, pointer_fails, cell_returns, passed_pointer_fails, passed_cell_returns, arguments_fail, call_returns, passed_arguments_fail, passed_call_returns, parts_fail, stop_returns, argument_handed_on, argument_without_memory, value_fails, value_returns, parts_done, plain_seen, passed_plain_fails, passed_plain_returns}
 use Rattle.px_lower.proofs.ConditionArms.{first_operand_fails as compare_first_fails, left_operand_fails as compare_left_fails, right_operand_fails as compare_right_fails, compare_returns, word_fails, word_compared, pointer_fails as pointer_test_fails, pointer_compared, opposite_fails, opposite_returns, first_and_fails, left_and_fails, and_returns, first_or_fails, left_or_fails, or_returns, and_puts, or_puts, outcome_fails, outcome_returns, passed_all, passed_more, passed_fails, passed_end, all_arguments, arguments_behind, arguments_begin, argument_more, argument_fails, arguments_end}
 use Rattle.px_lower.proofs.expressions.+lower.Goals as goal
 
@@ -218,19 +218,33 @@ arguments-loop-e-init t c = λ last r h.
 
 pub arguments-loop-e-preserved : goal.arguments-loop-e-preserved
 arguments-loop-e-preserved t c = λ last r h.
-    c.loop-e.invariant last r (argument_more c.args.es.now c.loop-e.e-index c.e-item.result c.loop-e-test.true c.e-item.is c.loop-e.operands.items c.loop-e.behind (map command_tree c.loop-e.out.items) (map command_tree c.expression.new.out.items) c.in_ok-x.x last r c.in_ok-x.ensures (subst (λ xs. GivesAll (arguments_behind xs (drop (c.loop-e.e-index + 1) c.args.es.now) c.in_ok-x.x.next) (map command_tree c.expression.new.out.items) last r) c.in_ok-push.ensures.items h))
+    c.loop-e.invariant last r (argument_more c.args.es.now c.loop-e.e-index c.e-item.result c.loop-e-test.true c.e-item.is c.loop-e.operands.items c.argument.new.operands.items c.loop-e.behind (map command_tree c.loop-e.out.items) (map command_tree c.argument.new.out.items) c.in_ok-behind.behind last r c.in_ok-behind.ensures h)
 
-pub arguments-returns-in_err-x : goal.arguments-returns-in_err-x
-arguments-returns-in_err-x t c =
-    handed_on operands behind (all_arguments c.args.es.now c.args.next) (map command_tree c.args.out.now.items) _ c.from_residual-in_err-x.result c.in_err-x.field-0.0 (err_from_is_err_and c.from_residual-in_err-x.result c.from_residual-in_err-x.ensures.1) (c.loop-e.invariant (map command_tree c.expression.new.out.items) (Err c.in_err-x.field-0.0) (argument_fails c.args.es.now c.loop-e.e-index c.e-item.result c.loop-e-test.true c.e-item.is c.loop-e.operands.items c.loop-e.behind (map command_tree c.loop-e.out.items) (map command_tree c.expression.new.out.items) c.in_err-x.field-0.0 c.in_err-x.ensures))
-
-pub arguments-returns-in_err-push : goal.arguments-returns-in_err-push
-arguments-returns-in_err-push t c =
-    out_of_memory operands behind (all_arguments c.args.es.now c.args.next) (map command_tree c.args.out.now.items) _ c.from_residual-in_err-push.result (err_from_is_err_and c.from_residual-in_err-push.result c.from_residual-in_err-push.ensures.1)
+pub arguments-returns-in_err-behind : goal.arguments-returns-in_err-behind
+arguments-returns-in_err-behind t c =
+    handed_on operands behind (all_arguments c.args.es.now c.args.next) (map command_tree c.args.out.now.items) _ c.from_residual-in_err-behind.result c.in_err-behind.field-0.0 (err_from_is_err_and c.from_residual-in_err-behind.result c.from_residual-in_err-behind.ensures.1)
+    (c.loop-e.invariant (map command_tree c.argument.new.out.items) (Err c.in_err-behind.field-0.0) (argument_fails c.args.es.now c.loop-e.e-index c.e-item.result c.loop-e-test.true c.e-item.is c.loop-e.operands.items c.argument.new.operands.items c.loop-e.behind (map command_tree c.loop-e.out.items) (map command_tree c.argument.new.out.items) c.in_err-behind.field-0.0 c.in_err-behind.ensures))
 
 pub arguments-returns : goal.arguments-returns
 arguments-returns t c =
     c.loop-e.invariant (map command_tree c.loop-e.out.items) (Ok (record { operands = c.loop-e.operands; next = c.loop-e.behind })) (arguments_end c.args.es.now c.loop-e.e-index c.loop-e-test.false c.loop-e.operands.items c.loop-e.behind (map command_tree c.loop-e.out.items) (record { operands = c.loop-e.operands; next = c.loop-e.behind }) refl refl)
+
+pub argument-returns-in_err-x-in-Passed : goal.argument-returns-in_err-x-in-Passed
+argument-returns-in_err-x-in-Passed t c =
+    argument_handed_on c.args.e.now c.args.next (map command_tree c.args.out.now.items) _ c.args.operands.now.items c.args.operands.now.items c.in_err-x-in-Passed.field-0.0 c.from_residual.result (err_from_is_err_and c.from_residual.result c.from_residual.ensures.1)
+    (value_fails c.args.e.now c.args.next (map command_tree c.args.out.now.items) c.in-Passed.value c.in-Passed.is _ c.args.operands.now.items c.args.operands.now.items c.in_err-x-in-Passed.field-0.0 c.in_err-x-in-Passed.ensures)
+
+pub argument-returns-in_err-push-in-Passed : goal.argument-returns-in_err-push-in-Passed
+argument-returns-in_err-push-in-Passed t c =
+    argument_without_memory c.args.e.now c.args.next (map command_tree c.args.out.now.items) _ c.args.operands.now.items _ c.from_residual-in_err-push-in-Passed.result (err_from_is_err_and c.from_residual-in_err-push-in-Passed.result c.from_residual-in_err-push-in-Passed.ensures.1)
+
+pub argument-returns-in_ok-push-in-Passed : goal.argument-returns-in_ok-push-in-Passed
+argument-returns-in_ok-push-in-Passed t c =
+    value_returns c.args.e.now c.args.next (map command_tree c.args.out.now.items) c.in-Passed.value c.in-Passed.is _ c.args.operands.now.items _ c.in_ok-x-in-Passed.x c.in_ok-x-in-Passed.ensures c.in_ok-push-in-Passed.ensures.items
+
+pub argument-returns-in-Erased : goal.argument-returns-in-Erased
+argument-returns-in-Erased t c =
+    parts_done c.args.e.now c.args.next (map command_tree c.args.out.now.items) c.deref.result.now c.in-Erased.parts c.in-Erased.is c.deref.ensures.value _ c.args.operands.now.items c.effects.result c.effects.ensures
 
 pub condition-returns-in_err-x-in-Compare : goal.condition-returns-in_err-x-in-Compare
 condition-returns-in_err-x-in-Compare t c =

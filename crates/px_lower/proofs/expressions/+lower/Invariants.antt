@@ -1,18 +1,18 @@
 use Rattle.std.proofs.Common.{◌≡◌, ◌++◌, ℕ, List, Result, Ok, map, drop}
 use Rattle.px_core.specs.CommandTree.{CommandTree, command_tree}
-use Rattle.px_syntax.specs.TypedTree.{Expression, Condition, expressions_of}
-use Rattle.px_syntax.specs.TypedViews.{typed_expression, typed_condition, arithmetic_link, relation_link, calculated, compared, cells, all_of, any_of}
+use Rattle.px_syntax.specs.TypedTree.{Expression, Condition, expressions_of, arguments_of}
+use Rattle.px_syntax.specs.TypedViews.{typed_expression, typed_argument, typed_condition, arithmetic_link, relation_link, calculated, compared, cells, all_of, any_of}
 use Rattle.px_lower.specs.declared.put.Halt.{Halt}
 use Rattle.px_lower.specs.declared.commands.Operands.{Operands}
-use Rattle.px_lower.specs.Lowering.{and_then, ready, lowered_expression, lowered_expressions, lowered_passed, lowered_condition}
+use Rattle.px_lower.specs.Lowering.{and_then, ready, lowered_expression, lowered_arguments, lowered_passed, lowered_condition}
 use Rattle.px_lower.specs.Chains.{Gives, GivesAll, Decides, Does}
 use Rattle.px_lower.proofs.expressions.+lower.Given as goal
 
 -- whatever what is left comes to, all comes to
 abbrev pub invariant-arguments-loop-e : goal.invariant-arguments-loop-e
 invariant-arguments-loop-e l = (after : List CommandTree) (r : Result Operands Halt) →
-    GivesAll (and_then (lowered_expressions (expressions_of (map typed_expression (drop l.e-index l.es))) l.behind) (λ xs n. ready (l.operands.items ++ xs) n)) (map command_tree l.out.items) after r →
-    GivesAll (lowered_expressions (expressions_of (map typed_expression l.es)) l.fn.next) (map command_tree l.fn.out.items) after r
+    GivesAll (and_then (lowered_arguments (arguments_of (map typed_argument (drop l.e-index l.es))) l.behind) (λ xs n. ready (l.operands.items ++ xs) n)) (map command_tree l.out.items) after r →
+    GivesAll (lowered_arguments (arguments_of (map typed_argument l.es)) l.fn.next) (map command_tree l.fn.out.items) after r
 
 abbrev pub invariant-effects-loop-part : goal.invariant-effects-loop-part
 invariant-effects-loop-part l = (after : List CommandTree) (r : Result ℕ Halt) →

@@ -1,16 +1,16 @@
-use Rattle.std.proofs.Common.{◌≡◌, ◌∙◌, refl, ap, map, drop, sym, subst, Ok, Err, Vec, Global, ap₂, true, false, Bool, ◌-◌, ◌<◌, arith, get_or, rules, ◌+◌, option_map}
+use Rattle.std.proofs.Common.{◌≡◌, ◌∙◌, List, [], ◌∷◌, ◌++◌, append-nil, refl, ap, map, drop, sym, subst, Ok, Err, Vec, Global, ap₂, true, false, Bool, ◌-◌, ◌<◌, arith, get_or, rules, ◌+◌, option_map}
 use Rattle.std.proofs.lemmas.Result.{err_from_is_err_and}
 use Rattle.px_meaning.specs.Values.{Value, Unwritten}
-use Rattle.px_syntax.specs.TypedTree.{expressions_of, no_expressions, an_expression, stop, evaluate, statements_of, Statement, run_call, free, choose, arithmetic, cell, call, compare, both, either, negated, truth, word, pointer, opposite, block, assign, update, loop}
-use Rattle.px_syntax.specs.TypedViews.{typed_expression, typed_statement, typed_condition, typed_place, arithmetic_link, relation_link, calculated, compared, cells, all_of, any_of}
+use Rattle.px_syntax.specs.TypedTree.{expressions_of, arguments_of, no_arguments, an_argument, no_expressions, an_expression, stop, evaluate, statements_of, Statement, run_call, free, choose, arithmetic, cell, call, compare, both, either, negated, truth, word, pointer, opposite, block, assign, update, loop}
+use Rattle.px_syntax.specs.TypedViews.{typed_expression, typed_argument, typed_statement, typed_condition, typed_place, arithmetic_link, relation_link, calculated, compared, cells, all_of, any_of}
 use Rattle.px_replay.specs.declared.flow.Flow.{Flow}
 use Rattle.px_replay.specs.Script.{plain_script, UnlessMemory, and_then, answers}
-use Rattle.px_replay.specs.Interpreted.{types_in, calls_of, given, ended}
+use Rattle.px_replay.specs.Interpreted.{types_in, calls_of, given, given_these, ended}
 use Rattle.px_replay.specs.Locals.{locals_map}
 use Rattle.px_replay.specs.ChainReplay.{onto, chained, loads_link, calculates_link, compares_link, and_link, or_link}
 use Rattle.px_replay.specs.TreeReplay.{ReplaysAll, PassesAll, reaches, ReplaysStatements, ReplaysStatement, Checks, assigns, updates, CallsReplay, returned, Replays, on_fall, loops, checks_if, on_turn}
 use Rattle.px_replay.proofs.ActLemmas.{ended_by, ended_surely, surely, unless}
-use Rattle.px_replay.proofs.ListLemmas.{arguments_more, arguments_stop, arguments_end, onto_none, statements_more, statements_stop, statements_end, ends_list}
+use Rattle.px_replay.proofs.ListLemmas.{passed_stops, passed_goes, erased_done, arguments_more, arguments_stop, arguments_end, onto_none, statements_more, statements_stop, statements_end, ends_list}
 use Rattle.std.specs.Prelude.{⊤}
 use Rattle.px_meaning.specs.Execution.{Locals}
 use Rattle.px_replay.specs.declared.flow.Flow.TheVariants.{Falls}
@@ -22,31 +22,45 @@ use Rattle.px_replay.proofs.PassLemmas.{effects_more, effects_stop, effects_end,
 use Rattle.px_replay.proofs.BodyLemmas.{body_at, got}
 use Rattle.px_replay.proofs.ChainLemmas.{chain_more, chain_stops, chain_ends, calculated_goes, calculated_stops, cells_goes, cells_stops, compared_goes, compared_stops, all_goes, all_stops, all_false, any_goes, any_stops, any_true, cells_same, chosen, passed}
 use Rattle.px_syntax.proofs.TypedEquations.{typed_trees, typed-Block}
-use Rattle.px_meaning.proofs.TreesSeen.{compare_seen, both_seen, either_seen, arithmetic_seen, call_seen, cell_seen, stop_seen}
+use Rattle.px_meaning.proofs.TreesSeen.{compare_seen, both_seen, either_seen, arithmetic_seen, call_seen, cell_seen, stop_seen, erased_seen}
 use Rattle.px_base.specs.declared.trace.MarkKind.TheVariants.{Iter, Done}
 use Rattle.px_replay.proofs.LoopLemmas.{took_mark, no_mark, next_turn, turn_goes, turn_ends}
 use Rattle.px_replay.specs.Operations.{used_value}
 use Rattle.px_syntax.specs.TypedTree as tree
-use Rattle.px_replay.proofs.Sizes.{size_of, test_size, value_size, test_size_if, place_size, statement_size, body_falls, falls, calculated_first, calculated_link, compared_first, compared_link, all_of_first, all_of_link, any_of_first, any_of_link, cells_first, argument_in, statement_in}
+use Rattle.px_replay.proofs.Sizes.{size_of, argument_size, test_size, value_size, test_size_if, place_size, statement_size, body_falls, falls, calculated_first, calculated_link, compared_first, compared_link, all_of_first, all_of_link, any_of_first, any_of_link, cells_first, part_in, argument_in, statement_in}
 use Rattle.px_replay.proofs.interpreter.+replay.Goals as goal
 
 pub arguments-loop-e-preserved : goal.arguments-loop-e-preserved
 arguments-loop-e-preserved t c = λ r s' k.
-    let types = types_in c.args.callees.now in let calls = calls_of c.args.callees.now in let locals = locals_map c.args.locals.now in subst (λ vs. ReplaysAll types calls (expressions_of (map typed_expression c.args.es.now)) locals (plain_script c.args.script.now) (onto vs r) s') (sym c.in_ok-push.ensures.items)
-    (arguments_more types calls c.args.es.now c.args.es.now c.loop-e.e-index c.e-item.result locals c.loop-e.values.items c.in_ok-value.value (plain_script c.args.script.now) (plain_script c.loop-e.script) (plain_script c.expression.new.script) r s'
-    c.loop-e-test.true c.e-item.is c.loop-e.invariant c.in_ok-value.ensures k)
+    let types = types_in c.args.callees.now in let calls = calls_of c.args.callees.now in let locals = locals_map c.args.locals.now in let (more, are, h) = c.in_ok-argument.ensures in subst (λ vs. ReplaysAll types calls (arguments_of (map typed_argument c.args.es.now)) locals (plain_script c.args.script.now) (onto vs r) s') (sym are) (arguments_more types calls c.args.es.now c.args.es.now c.loop-e.e-index c.e-item.result locals c.loop-e.values.items more (plain_script c.args.script.now) (plain_script c.loop-e.script) (plain_script c.argument.new.script) r s' c.loop-e-test.true c.e-item.is c.loop-e.invariant h k)
 
-pub arguments-returns-in_err-value : goal.arguments-returns-in_err-value
-arguments-returns-in_err-value t c =
-    let types = types_in c.args.callees.now in let calls = calls_of c.args.callees.now in let locals = locals_map c.args.locals.now in ended_by Value (Vec Value Global) (λ s r s'. ReplaysAll types calls (expressions_of (map typed_expression c.args.es.now)) locals s (given r) s') (plain_script c.args.script.now) (plain_script c.expression.new.script)
-    c.from_residual-in_err-value.result c.in_err-value.field-0.0 (err_from_is_err_and c.from_residual-in_err-value.result c.from_residual-in_err-value.ensures.1)
-    (λ h. c.loop-e.invariant _ _ (arguments_stop types calls c.args.es.now c.loop-e.e-index c.e-item.result locals c.in_err-value.field-0.0 (plain_script c.loop-e.script) (plain_script c.expression.new.script) c.loop-e-test.true c.e-item.is h))
-    c.in_err-value.ensures
+pub arguments-returns-in_err-argument : goal.arguments-returns-in_err-argument
+arguments-returns-in_err-argument t c =
+    let types = types_in c.args.callees.now in let calls = calls_of c.args.callees.now in let locals = locals_map c.args.locals.now in ended_by ⊤ (Vec Value Global) (λ s r s'. ReplaysAll types calls (arguments_of (map typed_argument c.args.es.now)) locals s (given r) s') (plain_script c.args.script.now) (plain_script c.argument.new.script) c.from_residual-in_err-argument.result c.in_err-argument.field-0.0 (err_from_is_err_and c.from_residual-in_err-argument.result c.from_residual-in_err-argument.ensures.1) (λ h. c.loop-e.invariant _ _ (arguments_stop types calls c.args.es.now c.loop-e.e-index c.e-item.result locals c.in_err-argument.field-0.0 (plain_script c.loop-e.script) (plain_script c.argument.new.script) c.loop-e-test.true c.e-item.is h.2)) c.in_err-argument.ensures
+
+pub argument-returns-in_err-given-in-Passed : goal.argument-returns-in_err-given-in-Passed
+argument-returns-in_err-given-in-Passed t c =
+    let types = types_in c.args.callees.now in let calls = calls_of c.args.callees.now in let locals = locals_map c.args.locals.now in let s0 = plain_script c.args.script.now in let s1 = plain_script c.expression.new.script in let d = c.in_err-given-in-Passed.field-0.0 in let there = c.args.values.now.items in
+    ended_by Value ⊤ (λ s r s'. (more : List Value) × (there ≡ there ++ more) × ReplaysAll types calls (an_argument (typed_argument c.args.e.now) no_arguments) locals s (given_these more r) s') s0 s1 c.from_residual.result d (err_from_is_err_and c.from_residual.result c.from_residual.ensures.1) (λ h. ([], sym (append-nil there), passed_stops types calls c.args.e.now c.in-Passed.value c.in-Passed.is locals d s0 s1 h)) c.in_err-given-in-Passed.ensures
+
+pub argument-returns-in_ok-push-in-Passed : goal.argument-returns-in_ok-push-in-Passed
+argument-returns-in_ok-push-in-Passed t c =
+    let types = types_in c.args.callees.now in let calls = calls_of c.args.callees.now in let locals = locals_map c.args.locals.now in let s0 = plain_script c.args.script.now in let s1 = plain_script c.expression.new.script in (c.in_ok-given-in-Passed.given ∷ [], c.in_ok-push-in-Passed.ensures.items, passed_goes types calls c.args.e.now c.in-Passed.value c.in-Passed.is locals c.in_ok-given-in-Passed.given s0 s1 c.in_ok-given-in-Passed.ensures)
+
+pub argument-returns-in-Erased : goal.argument-returns-in-Erased
+argument-returns-in-Erased t c =
+    let types = types_in c.args.callees.now in let calls = calls_of c.args.callees.now in let locals = locals_map c.args.locals.now in let s0 = plain_script c.args.script.now in let s1 = plain_script c.effects.new.script in let there = c.args.values.now.items in
+    unless c.effects.result (λ h. ([], sym (append-nil there), erased_done types calls c.args.e.now c.deref.result.now c.in-Erased.parts c.in-Erased.is c.deref.ensures.value locals c.effects.result s0 s1 h)) c.effects.ensures
+
+pub argument-expression-requires : goal.argument-expression-requires
+argument-expression-requires t c = let h = ap argument_size (ap typed_argument c.in-Passed.is) in (falls c.args.callees.now _ _ t c.decreases (omega (arith, h)), tt)
+
+pub argument-effects-requires : goal.argument-effects-requires
+argument-effects-requires t c = let h = ap argument_size (erased_seen c.args.e.now c.deref.result.now c.in-Erased.parts c.in-Erased.is c.deref.ensures.value) in (falls c.args.callees.now _ _ t c.decreases (omega (arith, h)), tt)
 
 pub arguments-returns : goal.arguments-returns
 arguments-returns t c =
-    let types = types_in c.args.callees.now in let calls = calls_of c.args.callees.now in let locals = locals_map c.args.locals.now in subst (λ r. ReplaysAll types calls (expressions_of (map typed_expression c.args.es.now)) locals (plain_script c.args.script.now) r (plain_script c.loop-e.script)) (onto_none types calls c.loop-e.values.items)
-    (c.loop-e.invariant _ _ (arguments_end types calls c.args.es.now c.loop-e.e-index locals (plain_script c.loop-e.script) c.loop-e-test.false))
+    let types = types_in c.args.callees.now in let calls = calls_of c.args.callees.now in let locals = locals_map c.args.locals.now in subst (λ r. ReplaysAll types calls (arguments_of (map typed_argument c.args.es.now)) locals (plain_script c.args.script.now) r (plain_script c.loop-e.script)) (onto_none types calls c.loop-e.values.items) (c.loop-e.invariant _ _ (arguments_end types calls c.args.es.now c.loop-e.e-index locals (plain_script c.loop-e.script) c.loop-e-test.false))
 
 pub effects-loop-e-preserved : goal.effects-loop-e-preserved
 effects-loop-e-preserved t c = λ r s' k.
@@ -54,23 +68,19 @@ effects-loop-e-preserved t c = λ r s' k.
 
 pub effects-returns-in_err-effect : goal.effects-returns-in_err-effect
 effects-returns-in_err-effect t c =
-    let types = types_in c.args.callees.now in let calls = calls_of c.args.callees.now in let locals = locals_map c.args.locals.now in ended_by ⊤ ⊤ (λ s r s'. PassesAll types calls (expressions_of (map typed_expression c.args.es.now)) locals s r s') (plain_script c.args.script.now) (plain_script c.effect.new.script)
-    c.from_residual.result c.in_err-effect.field-0.0 (err_from_is_err_and c.from_residual.result c.from_residual.ensures.1)
-    (λ h. c.loop-e.invariant _ _ (effects_stop types calls c.args.es.now c.loop-e.e-index c.e-item.result locals c.in_err-effect.field-0.0 (plain_script c.loop-e.script) (plain_script c.effect.new.script) c.loop-e-test.true c.e-item.is h))
-    c.in_err-effect.ensures
+    let types = types_in c.args.callees.now in let calls = calls_of c.args.callees.now in let locals = locals_map c.args.locals.now in ended_by ⊤ ⊤ (λ s r s'. PassesAll types calls (expressions_of (map typed_expression c.args.es.now)) locals s r s') (plain_script c.args.script.now) (plain_script c.effect.new.script) c.from_residual.result c.in_err-effect.field-0.0 (err_from_is_err_and c.from_residual.result c.from_residual.ensures.1) (λ h. c.loop-e.invariant _ _ (effects_stop types calls c.args.es.now c.loop-e.e-index c.e-item.result locals c.in_err-effect.field-0.0 (plain_script c.loop-e.script) (plain_script c.effect.new.script) c.loop-e-test.true c.e-item.is h)) c.in_err-effect.ensures
 
 pub effects-returns : goal.effects-returns
 effects-returns t c =
     let types = types_in c.args.callees.now in let calls = calls_of c.args.callees.now in let locals = locals_map c.args.locals.now in c.loop-e.invariant _ _ (effects_end types calls c.args.es.now c.loop-e.e-index locals (plain_script c.loop-e.script) c.loop-e-test.false)
 
 pub effects-effect-requires : goal.effects-effect-requires
-effects-effect-requires t c = let h = argument_in c.args.es.now c.loop-e.e-index c.e-item.result c.loop-e-test.true c.e-item.is in (falls c.args.callees.now _ _ t c.decreases (omega (arith, h)), tt)
+effects-effect-requires t c = let h = part_in c.args.es.now c.loop-e.e-index c.e-item.result c.loop-e-test.true c.e-item.is in (falls c.args.callees.now _ _ t c.decreases (omega (arith, h)), tt)
 
 pub expression-returns-in_err-effects-in-Stop : goal.expression-returns-in_err-effects-in-Stop
 expression-returns-in_err-effects-in-Stop t c =
     let types = types_in c.args.callees.now in let calls = calls_of c.args.callees.now in let locals = locals_map c.args.locals.now in let s0 = plain_script c.args.script.now in let s1 = plain_script c.effects.new.script in let d = c.in_err-effects-in-Stop.field-0.0 in let eq : typed_expression c.args.e.now ≡ stop c.in-Stop.word c.in-Stop.site (expressions_of (map typed_expression c.deref-in-Stop.result.now)) = stop_seen c.args.e.now c.deref-in-Stop.result.now c.in-Stop.word c.in-Stop.site c.in-Stop.parts c.in-Stop.is c.deref-in-Stop.ensures.value in
-    ended_by ⊤ Value (λ s r s'. Replays types calls (typed_expression c.args.e.now) locals s r s') s0 s1 c.from_residual-in_err-effects-in-Stop.result d (err_from_is_err_and c.from_residual-in_err-effects-in-Stop.result c.from_residual-in_err-effects-in-Stop.ensures.1)
-    (λ h. subst (λ e. Replays types calls e locals s0 (Err d) s1) (sym eq) (Err d, s1, h, (refl, refl))) c.in_err-effects-in-Stop.ensures
+    ended_by ⊤ Value (λ s r s'. Replays types calls (typed_expression c.args.e.now) locals s r s') s0 s1 c.from_residual-in_err-effects-in-Stop.result d (err_from_is_err_and c.from_residual-in_err-effects-in-Stop.result c.from_residual-in_err-effects-in-Stop.ensures.1) (λ h. subst (λ e. Replays types calls e locals s0 (Err d) s1) (sym eq) (Err d, s1, h, (refl, refl))) c.in_err-effects-in-Stop.ensures
 
 pub expression-returns-in_ok-effects-in-Stop : goal.expression-returns-in_ok-effects-in-Stop
 expression-returns-in_ok-effects-in-Stop t c =
@@ -86,8 +96,7 @@ effect-returns-in-Local t c = subst (λ e. PassesAll (types_in c.args.callees.no
 pub effect-returns-in_err-at-in-Cell : goal.effect-returns-in_err-at-in-Cell
 effect-returns-in_err-at-in-Cell t c =
     let types = types_in c.args.callees.now in let calls = calls_of c.args.callees.now in let locals = locals_map c.args.locals.now in let s0 = plain_script c.args.script.now in let s1 = plain_script c.cells.new.script in let d = c.in_err-at-in-Cell.field-0.0 in let eq : typed_expression c.args.e.now ≡ cell (cells (typed_expression c.deref.result.now) c.deref-in-Cell.result.now) c.in-Cell.field c.in-Cell.block c.in-Cell.site = cell_seen c.args.e.now c.deref.result.now c.deref-in-Cell.result.now c.in-Cell.pointer c.in-Cell.before c.in-Cell.field c.in-Cell.block c.in-Cell.site c.in-Cell.is c.deref.ensures c.deref-in-Cell.ensures.value in
-    ended_by Value ⊤ (λ s r s'. PassesAll types calls (an_expression (typed_expression c.args.e.now) no_expressions) locals s r s') s0 s1 c.from_residual.result d (err_from_is_err_and c.from_residual.result c.from_residual.ensures.1)
-    (λ h. subst (λ e. PassesAll types calls (an_expression e no_expressions) locals s0 (Err d) s1) (sym eq) (Err d, s1, h, (refl, refl))) c.in_err-at-in-Cell.ensures
+    ended_by Value ⊤ (λ s r s'. PassesAll types calls (an_expression (typed_expression c.args.e.now) no_expressions) locals s r s') s0 s1 c.from_residual.result d (err_from_is_err_and c.from_residual.result c.from_residual.ensures.1) (λ h. subst (λ e. PassesAll types calls (an_expression e no_expressions) locals s0 (Err d) s1) (sym eq) (Err d, s1, h, (refl, refl))) c.in_err-at-in-Cell.ensures
 
 pub effect-returns-in_ok-at-in-Cell : goal.effect-returns-in_ok-at-in-Cell
 effect-returns-in_ok-at-in-Cell t c =
@@ -96,19 +105,17 @@ effect-returns-in_ok-at-in-Cell t c =
 
 pub effect-returns-in_err-values-in-Call : goal.effect-returns-in_err-values-in-Call
 effect-returns-in_err-values-in-Call t c =
-    let types = types_in c.args.callees.now in let calls = calls_of c.args.callees.now in let locals = locals_map c.args.locals.now in let s0 = plain_script c.args.script.now in let s1 = plain_script c.arguments.new.script in let d = c.in_err-values-in-Call.field-0.0 in let eq : typed_expression c.args.e.now ≡ call c.in-Call.proc (expressions_of (map typed_expression c.deref-in-Call.result.now)) c.in-Call.result c.in-Call.site = call_seen c.args.e.now c.deref-in-Call.result.now c.in-Call.proc c.in-Call.es c.in-Call.result c.in-Call.site c.in-Call.is c.deref-in-Call.ensures.value in
-    ended_by (Vec Value Global) ⊤ (λ s r s'. PassesAll types calls (an_expression (typed_expression c.args.e.now) no_expressions) locals s r s') s0 s1 c.from_residual-in_err-values-in-Call.result d (err_from_is_err_and c.from_residual-in_err-values-in-Call.result c.from_residual-in_err-values-in-Call.ensures.1)
-    (λ h. subst (λ e. PassesAll types calls (an_expression e no_expressions) locals s0 (Err d) s1) (sym eq) (Err d, s1, h, (refl, refl))) c.in_err-values-in-Call.ensures
+    let types = types_in c.args.callees.now in let calls = calls_of c.args.callees.now in let locals = locals_map c.args.locals.now in let s0 = plain_script c.args.script.now in let s1 = plain_script c.arguments.new.script in let d = c.in_err-values-in-Call.field-0.0 in let eq : typed_expression c.args.e.now ≡ call c.in-Call.proc (arguments_of (map typed_argument c.deref-in-Call.result.now)) c.in-Call.result c.in-Call.site = call_seen c.args.e.now c.deref-in-Call.result.now c.in-Call.proc c.in-Call.es c.in-Call.result c.in-Call.site c.in-Call.is c.deref-in-Call.ensures.value in
+    ended_by (Vec Value Global) ⊤ (λ s r s'. PassesAll types calls (an_expression (typed_expression c.args.e.now) no_expressions) locals s r s') s0 s1 c.from_residual-in_err-values-in-Call.result d (err_from_is_err_and c.from_residual-in_err-values-in-Call.result c.from_residual-in_err-values-in-Call.ensures.1) (λ h. subst (λ e. PassesAll types calls (an_expression e no_expressions) locals s0 (Err d) s1) (sym eq) (Err d, s1, h, (refl, refl))) c.in_err-values-in-Call.ensures
 
 pub effect-returns-in_err-call-in-Call : goal.effect-returns-in_err-call-in-Call
 effect-returns-in_err-call-in-Call t c =
-    let types = types_in c.args.callees.now in let calls = calls_of c.args.callees.now in let locals = locals_map c.args.locals.now in let s0 = plain_script c.args.script.now in let sx = plain_script c.arguments.new.script in let s1 = plain_script c.call.new.script in let d = c.in_err-call-in-Call.field-0.0 in let eq : typed_expression c.args.e.now ≡ call c.in-Call.proc (expressions_of (map typed_expression c.deref-in-Call.result.now)) c.in-Call.result c.in-Call.site = call_seen c.args.e.now c.deref-in-Call.result.now c.in-Call.proc c.in-Call.es c.in-Call.result c.in-Call.site c.in-Call.is c.deref-in-Call.ensures.value in
-    ended_by Value ⊤ (λ s r s'. PassesAll types calls (an_expression (typed_expression c.args.e.now) no_expressions) locals s r s') s0 s1 c.from_residual-in_err-call-in-Call.result d (err_from_is_err_and c.from_residual-in_err-call-in-Call.result c.from_residual-in_err-call-in-Call.ensures.1)
-    (λ h. subst (λ e. PassesAll types calls (an_expression e no_expressions) locals s0 (Err d) s1) (sym eq) (Ok c.in_ok-values-in-Call.values.items, sx, c.in_ok-values-in-Call.ensures, (Err d, s1, h, (refl, refl)))) c.in_err-call-in-Call.ensures
+    let types = types_in c.args.callees.now in let calls = calls_of c.args.callees.now in let locals = locals_map c.args.locals.now in let s0 = plain_script c.args.script.now in let sx = plain_script c.arguments.new.script in let s1 = plain_script c.call.new.script in let d = c.in_err-call-in-Call.field-0.0 in let eq : typed_expression c.args.e.now ≡ call c.in-Call.proc (arguments_of (map typed_argument c.deref-in-Call.result.now)) c.in-Call.result c.in-Call.site = call_seen c.args.e.now c.deref-in-Call.result.now c.in-Call.proc c.in-Call.es c.in-Call.result c.in-Call.site c.in-Call.is c.deref-in-Call.ensures.value in
+    ended_by Value ⊤ (λ s r s'. PassesAll types calls (an_expression (typed_expression c.args.e.now) no_expressions) locals s r s') s0 s1 c.from_residual-in_err-call-in-Call.result d (err_from_is_err_and c.from_residual-in_err-call-in-Call.result c.from_residual-in_err-call-in-Call.ensures.1) (λ h. subst (λ e. PassesAll types calls (an_expression e no_expressions) locals s0 (Err d) s1) (sym eq) (Ok c.in_ok-values-in-Call.values.items, sx, c.in_ok-values-in-Call.ensures, (Err d, s1, h, (refl, refl)))) c.in_err-call-in-Call.ensures
 
 pub effect-returns-in_ok-call-in-Call : goal.effect-returns-in_ok-call-in-Call
 effect-returns-in_ok-call-in-Call t c =
-    let types = types_in c.args.callees.now in let calls = calls_of c.args.callees.now in let locals = locals_map c.args.locals.now in let s0 = plain_script c.args.script.now in let sx = plain_script c.arguments.new.script in let s1 = plain_script c.call.new.script in let eq : typed_expression c.args.e.now ≡ call c.in-Call.proc (expressions_of (map typed_expression c.deref-in-Call.result.now)) c.in-Call.result c.in-Call.site = call_seen c.args.e.now c.deref-in-Call.result.now c.in-Call.proc c.in-Call.es c.in-Call.result c.in-Call.site c.in-Call.is c.deref-in-Call.ensures.value in
+    let types = types_in c.args.callees.now in let calls = calls_of c.args.callees.now in let locals = locals_map c.args.locals.now in let s0 = plain_script c.args.script.now in let sx = plain_script c.arguments.new.script in let s1 = plain_script c.call.new.script in let eq : typed_expression c.args.e.now ≡ call c.in-Call.proc (arguments_of (map typed_argument c.deref-in-Call.result.now)) c.in-Call.result c.in-Call.site = call_seen c.args.e.now c.deref-in-Call.result.now c.in-Call.proc c.in-Call.es c.in-Call.result c.in-Call.site c.in-Call.is c.deref-in-Call.ensures.value in
     subst (λ e. PassesAll types calls (an_expression e no_expressions) locals s0 (Ok tt) s1) (sym eq) (Ok c.in_ok-values-in-Call.values.items, sx, c.in_ok-values-in-Call.ensures, (Ok c.in_ok-call-in-Call.field-0, s1, c.in_ok-call-in-Call.ensures, (refl, refl)))
 
 pub effect-returns-in_err-expression-in_default : goal.effect-returns-in_err-expression-in_default
@@ -294,16 +301,14 @@ condition-returns-in_err-x-in-Compare t c =
     let types = types_in c.args.callees.now in let calls = calls_of c.args.callees.now in let locals = locals_map c.args.locals.now in let s0 = plain_script c.args.script.now in let s1 = plain_script c.comparisons.new.script in let d = c.in_err-x-in-Compare.field-0.0 in let eq : typed_condition c.args.c.now ≡ compare c.in-Compare.relation (compared (typed_expression c.deref.result.now) (map relation_link c.deref-in-Compare.result.now)) (typed_expression c.in-Compare.right.value) c.in-Compare.site =
     compare_seen c.args.c.now c.deref.result.now (c.in-Compare.right.value) c.deref-in-Compare.result.now c.in-Compare.first c.in-Compare.before c.in-Compare.relation c.in-Compare.right c.in-Compare.site
     c.in-Compare.is c.deref.ensures c.deref-in-Compare.ensures.value refl in
-    ended_by Value Bool (λ s r s'. Checks types calls (typed_condition c.args.c.now) locals s r s') s0 s1 c.from_residual.result d (err_from_is_err_and c.from_residual.result c.from_residual.ensures.1)
-    (λ h. subst (λ e. Checks types calls e locals s0 (Err d) s1) (sym eq) (Err d, s1, h, (refl, refl))) c.in_err-x-in-Compare.ensures
+    ended_by Value Bool (λ s r s'. Checks types calls (typed_condition c.args.c.now) locals s r s') s0 s1 c.from_residual.result d (err_from_is_err_and c.from_residual.result c.from_residual.ensures.1) (λ h. subst (λ e. Checks types calls e locals s0 (Err d) s1) (sym eq) (Err d, s1, h, (refl, refl))) c.in_err-x-in-Compare.ensures
 
 pub condition-returns-in_err-y-in-Compare : goal.condition-returns-in_err-y-in-Compare
 condition-returns-in_err-y-in-Compare t c =
     let types = types_in c.args.callees.now in let calls = calls_of c.args.callees.now in let locals = locals_map c.args.locals.now in let s0 = plain_script c.args.script.now in let s1 = plain_script c.expression.new.script in let d = c.in_err-y-in-Compare.field-0.0 in let sx = plain_script c.comparisons.new.script in let eq : typed_condition c.args.c.now ≡ compare c.in-Compare.relation (compared (typed_expression c.deref.result.now) (map relation_link c.deref-in-Compare.result.now)) (typed_expression c.deref-in-Compare-2.result.now) c.in-Compare.site =
     compare_seen c.args.c.now c.deref.result.now (c.deref-in-Compare-2.result.now) c.deref-in-Compare.result.now c.in-Compare.first c.in-Compare.before c.in-Compare.relation c.in-Compare.right c.in-Compare.site
     c.in-Compare.is c.deref.ensures c.deref-in-Compare.ensures.value c.deref-in-Compare-2.ensures in
-    ended_by Value Bool (λ s r s'. Checks types calls (typed_condition c.args.c.now) locals s r s') s0 s1 c.from_residual-in_err-y-in-Compare.result d (err_from_is_err_and c.from_residual-in_err-y-in-Compare.result c.from_residual-in_err-y-in-Compare.ensures.1)
-    (λ h. subst (λ e. Checks types calls e locals s0 (Err d) s1) (sym eq) (Ok c.in_ok-x-in-Compare.x, sx, c.in_ok-x-in-Compare.ensures, (Err d, s1, h, (refl, refl)))) c.in_err-y-in-Compare.ensures
+    ended_by Value Bool (λ s r s'. Checks types calls (typed_condition c.args.c.now) locals s r s') s0 s1 c.from_residual-in_err-y-in-Compare.result d (err_from_is_err_and c.from_residual-in_err-y-in-Compare.result c.from_residual-in_err-y-in-Compare.ensures.1) (λ h. subst (λ e. Checks types calls e locals s0 (Err d) s1) (sym eq) (Ok c.in_ok-x-in-Compare.x, sx, c.in_ok-x-in-Compare.ensures, (Err d, s1, h, (refl, refl)))) c.in_err-y-in-Compare.ensures
 
 pub condition-returns-in_ok-y-in-Compare : goal.condition-returns-in_ok-y-in-Compare
 condition-returns-in_ok-y-in-Compare t c =
@@ -317,15 +322,13 @@ pub condition-returns-in_err-conjunction-in-And : goal.condition-returns-in_err-
 condition-returns-in_err-conjunction-in-And t c =
     let types = types_in c.args.callees.now in let calls = calls_of c.args.callees.now in let locals = locals_map c.args.locals.now in let s0 = plain_script c.args.script.now in let s1 = plain_script c.conjunction.new.script in let d = c.in_err-conjunction-in-And.field-0.0 in let eq : typed_condition c.args.c.now ≡ both (all_of (typed_condition c.deref-in-And.result.now) (map typed_condition c.deref-in-And-2.result.now)) (typed_condition c.in-And.right.value) =
     both_seen c.args.c.now c.deref-in-And.result.now (c.in-And.right.value) c.deref-in-And-2.result.now c.in-And.first c.in-And.before c.in-And.right c.in-And.is c.deref-in-And.ensures c.deref-in-And-2.ensures.value refl in
-    ended_by Bool Bool (λ s r s'. Checks types calls (typed_condition c.args.c.now) locals s r s') s0 s1 c.from_residual-in_err-conjunction-in-And.result d (err_from_is_err_and c.from_residual-in_err-conjunction-in-And.result c.from_residual-in_err-conjunction-in-And.ensures.1)
-    (λ h. subst (λ e. Checks types calls e locals s0 (Err d) s1) (sym eq) (Err d, s1, h, (refl, refl))) c.in_err-conjunction-in-And.ensures
+    ended_by Bool Bool (λ s r s'. Checks types calls (typed_condition c.args.c.now) locals s r s') s0 s1 c.from_residual-in_err-conjunction-in-And.result d (err_from_is_err_and c.from_residual-in_err-conjunction-in-And.result c.from_residual-in_err-conjunction-in-And.ensures.1) (λ h. subst (λ e. Checks types calls e locals s0 (Err d) s1) (sym eq) (Err d, s1, h, (refl, refl))) c.in_err-conjunction-in-And.ensures
 
 pub condition-returns-in_err-disjunction-in-Or : goal.condition-returns-in_err-disjunction-in-Or
 condition-returns-in_err-disjunction-in-Or t c =
     let types = types_in c.args.callees.now in let calls = calls_of c.args.callees.now in let locals = locals_map c.args.locals.now in let s0 = plain_script c.args.script.now in let s1 = plain_script c.disjunction.new.script in let d = c.in_err-disjunction-in-Or.field-0.0 in let eq : typed_condition c.args.c.now ≡ either (any_of (typed_condition c.deref-in-Or.result.now) (map typed_condition c.deref-in-Or-2.result.now)) (typed_condition c.in-Or.right.value) =
     either_seen c.args.c.now c.deref-in-Or.result.now (c.in-Or.right.value) c.deref-in-Or-2.result.now c.in-Or.first c.in-Or.before c.in-Or.right c.in-Or.is c.deref-in-Or.ensures c.deref-in-Or-2.ensures.value refl in
-    ended_by Bool Bool (λ s r s'. Checks types calls (typed_condition c.args.c.now) locals s r s') s0 s1 c.from_residual-in_err-disjunction-in-Or.result d (err_from_is_err_and c.from_residual-in_err-disjunction-in-Or.result c.from_residual-in_err-disjunction-in-Or.ensures.1)
-    (λ h. subst (λ e. Checks types calls e locals s0 (Err d) s1) (sym eq) (Err d, s1, h, (refl, refl))) c.in_err-disjunction-in-Or.ensures
+    ended_by Bool Bool (λ s r s'. Checks types calls (typed_condition c.args.c.now) locals s r s') s0 s1 c.from_residual-in_err-disjunction-in-Or.result d (err_from_is_err_and c.from_residual-in_err-disjunction-in-Or.result c.from_residual-in_err-disjunction-in-Or.ensures.1) (λ h. subst (λ e. Checks types calls e locals s0 (Err d) s1) (sym eq) (Err d, s1, h, (refl, refl))) c.in_err-disjunction-in-Or.ensures
 
 pub condition-returns-then-branch : goal.condition-returns-then-branch
 condition-returns-then-branch t c =
@@ -421,16 +424,14 @@ expression-returns-in_err-x-in-Arithmetic t c =
     let types = types_in c.args.callees.now in let calls = calls_of c.args.callees.now in let locals = locals_map c.args.locals.now in let s0 = plain_script c.args.script.now in let s1 = plain_script c.calculations.new.script in let d = c.in_err-x-in-Arithmetic.field-0.0 in let eq : typed_expression c.args.e.now ≡ arithmetic c.in-Arithmetic.operator (calculated (typed_expression c.deref-in-Arithmetic.result.now) (map arithmetic_link c.deref-in-Arithmetic-2.result.now)) (typed_expression c.in-Arithmetic.right.value) =
     arithmetic_seen c.args.e.now c.deref-in-Arithmetic.result.now (c.in-Arithmetic.right.value) c.deref-in-Arithmetic-2.result.now c.in-Arithmetic.first c.in-Arithmetic.before c.in-Arithmetic.operator c.in-Arithmetic.right
     c.in-Arithmetic.is c.deref-in-Arithmetic.ensures c.deref-in-Arithmetic-2.ensures.value refl in
-    ended_by Value Value (λ s r s'. Replays types calls (typed_expression c.args.e.now) locals s r s') s0 s1 c.from_residual-in_err-x-in-Arithmetic.result d (err_from_is_err_and c.from_residual-in_err-x-in-Arithmetic.result c.from_residual-in_err-x-in-Arithmetic.ensures.1)
-    (λ h. subst (λ e. Replays types calls e locals s0 (Err d) s1) (sym eq) (Err d, s1, h, (refl, refl))) c.in_err-x-in-Arithmetic.ensures
+    ended_by Value Value (λ s r s'. Replays types calls (typed_expression c.args.e.now) locals s r s') s0 s1 c.from_residual-in_err-x-in-Arithmetic.result d (err_from_is_err_and c.from_residual-in_err-x-in-Arithmetic.result c.from_residual-in_err-x-in-Arithmetic.ensures.1) (λ h. subst (λ e. Replays types calls e locals s0 (Err d) s1) (sym eq) (Err d, s1, h, (refl, refl))) c.in_err-x-in-Arithmetic.ensures
 
 pub expression-returns-in_err-y-in-Arithmetic : goal.expression-returns-in_err-y-in-Arithmetic
 expression-returns-in_err-y-in-Arithmetic t c =
     let types = types_in c.args.callees.now in let calls = calls_of c.args.callees.now in let locals = locals_map c.args.locals.now in let s0 = plain_script c.args.script.now in let s1 = plain_script c.expression-in-Arithmetic.new.script in let d = c.in_err-y-in-Arithmetic.field-0.0 in let sx = plain_script c.calculations.new.script in let eq : typed_expression c.args.e.now ≡ arithmetic c.in-Arithmetic.operator (calculated (typed_expression c.deref-in-Arithmetic.result.now) (map arithmetic_link c.deref-in-Arithmetic-2.result.now)) (typed_expression c.deref-in-Arithmetic-3.result.now) =
     arithmetic_seen c.args.e.now c.deref-in-Arithmetic.result.now (c.deref-in-Arithmetic-3.result.now) c.deref-in-Arithmetic-2.result.now c.in-Arithmetic.first c.in-Arithmetic.before c.in-Arithmetic.operator c.in-Arithmetic.right
     c.in-Arithmetic.is c.deref-in-Arithmetic.ensures c.deref-in-Arithmetic-2.ensures.value c.deref-in-Arithmetic-3.ensures in
-    ended_by Value Value (λ s r s'. Replays types calls (typed_expression c.args.e.now) locals s r s') s0 s1 c.from_residual-in_err-y-in-Arithmetic.result d (err_from_is_err_and c.from_residual-in_err-y-in-Arithmetic.result c.from_residual-in_err-y-in-Arithmetic.ensures.1)
-    (λ h. subst (λ e. Replays types calls e locals s0 (Err d) s1) (sym eq) (Ok c.in_ok-x-in-Arithmetic.x, sx, c.in_ok-x-in-Arithmetic.ensures, (Err d, s1, h, (refl, refl)))) c.in_err-y-in-Arithmetic.ensures
+    ended_by Value Value (λ s r s'. Replays types calls (typed_expression c.args.e.now) locals s r s') s0 s1 c.from_residual-in_err-y-in-Arithmetic.result d (err_from_is_err_and c.from_residual-in_err-y-in-Arithmetic.result c.from_residual-in_err-y-in-Arithmetic.ensures.1) (λ h. subst (λ e. Replays types calls e locals s0 (Err d) s1) (sym eq) (Ok c.in_ok-x-in-Arithmetic.x, sx, c.in_ok-x-in-Arithmetic.ensures, (Err d, s1, h, (refl, refl)))) c.in_err-y-in-Arithmetic.ensures
 
 pub expression-returns-in_ok-y-in-Arithmetic : goal.expression-returns-in_ok-y-in-Arithmetic
 expression-returns-in_ok-y-in-Arithmetic t c =
@@ -443,8 +444,7 @@ expression-returns-in_ok-y-in-Arithmetic t c =
 pub expression-returns-in_err-at-in-Cell : goal.expression-returns-in_err-at-in-Cell
 expression-returns-in_err-at-in-Cell t c =
     let types = types_in c.args.callees.now in let calls = calls_of c.args.callees.now in let locals = locals_map c.args.locals.now in let s0 = plain_script c.args.script.now in let s1 = plain_script c.cells.new.script in let d = c.in_err-at-in-Cell.field-0.0 in let eq : typed_expression c.args.e.now ≡ cell (cells (typed_expression c.deref-in-Cell.result.now) c.deref-in-Cell-2.result.now) c.in-Cell.field c.in-Cell.block c.in-Cell.site = search (rules, typed_trees) in
-    ended_by Value Value (λ s r s'. Replays types calls (typed_expression c.args.e.now) locals s r s') s0 s1 c.from_residual-in_err-at-in-Cell.result d (err_from_is_err_and c.from_residual-in_err-at-in-Cell.result c.from_residual-in_err-at-in-Cell.ensures.1)
-    (λ h. subst (λ e. Replays types calls e locals s0 (Err d) s1) (sym eq) (Err d, s1, h, (refl, refl))) c.in_err-at-in-Cell.ensures
+    ended_by Value Value (λ s r s'. Replays types calls (typed_expression c.args.e.now) locals s r s') s0 s1 c.from_residual-in_err-at-in-Cell.result d (err_from_is_err_and c.from_residual-in_err-at-in-Cell.result c.from_residual-in_err-at-in-Cell.ensures.1) (λ h. subst (λ e. Replays types calls e locals s0 (Err d) s1) (sym eq) (Err d, s1, h, (refl, refl))) c.in_err-at-in-Cell.ensures
 
 pub expression-returns-in_ok-at-in-Cell : goal.expression-returns-in_ok-at-in-Cell
 expression-returns-in_ok-at-in-Cell t c =
@@ -453,43 +453,42 @@ expression-returns-in_ok-at-in-Cell t c =
 
 pub expression-returns-in_err-values-in-Call : goal.expression-returns-in_err-values-in-Call
 expression-returns-in_err-values-in-Call t c =
-    let types = types_in c.args.callees.now in let calls = calls_of c.args.callees.now in let locals = locals_map c.args.locals.now in let s0 = plain_script c.args.script.now in let s1 = plain_script c.arguments.new.script in let d = c.in_err-values-in-Call.field-0.0 in let eq : typed_expression c.args.e.now ≡ call c.in-Call.proc (expressions_of (map typed_expression c.deref-in-Call.result.now)) c.in-Call.result c.in-Call.site =
+    let types = types_in c.args.callees.now in let calls = calls_of c.args.callees.now in let locals = locals_map c.args.locals.now in let s0 = plain_script c.args.script.now in let s1 = plain_script c.arguments.new.script in let d = c.in_err-values-in-Call.field-0.0 in let eq : typed_expression c.args.e.now ≡ call c.in-Call.proc (arguments_of (map typed_argument c.deref-in-Call.result.now)) c.in-Call.result c.in-Call.site =
     call_seen c.args.e.now c.deref-in-Call.result.now c.in-Call.proc c.in-Call.es c.in-Call.result c.in-Call.site c.in-Call.is c.deref-in-Call.ensures.value in
-    ended_by (Vec Value Global) Value (λ s r s'. Replays types calls (typed_expression c.args.e.now) locals s r s') s0 s1 c.from_residual-in_err-values-in-Call.result d (err_from_is_err_and c.from_residual-in_err-values-in-Call.result c.from_residual-in_err-values-in-Call.ensures.1)
-    (λ h. subst (λ e. Replays types calls e locals s0 (Err d) s1) (sym eq) (Err d, s1, h, (refl, refl))) c.in_err-values-in-Call.ensures
+    ended_by (Vec Value Global) Value (λ s r s'. Replays types calls (typed_expression c.args.e.now) locals s r s') s0 s1 c.from_residual-in_err-values-in-Call.result d (err_from_is_err_and c.from_residual-in_err-values-in-Call.result c.from_residual-in_err-values-in-Call.ensures.1) (λ h. subst (λ e. Replays types calls e locals s0 (Err d) s1) (sym eq) (Err d, s1, h, (refl, refl))) c.in_err-values-in-Call.ensures
 
 pub expression-returns-in_err-value-in-Call : goal.expression-returns-in_err-value-in-Call
 expression-returns-in_err-value-in-Call t c =
-    let types = types_in c.args.callees.now in let calls = calls_of c.args.callees.now in let locals = locals_map c.args.locals.now in let s0 = plain_script c.args.script.now in let s1 = plain_script c.call.new.script in let d = c.in_err-value-in-Call.field-0.0 in let sx = plain_script c.arguments.new.script in let eq : typed_expression c.args.e.now ≡ call c.in-Call.proc (expressions_of (map typed_expression c.deref-in-Call.result.now)) c.in-Call.result c.in-Call.site =
+    let types = types_in c.args.callees.now in let calls = calls_of c.args.callees.now in let locals = locals_map c.args.locals.now in let s0 = plain_script c.args.script.now in let s1 = plain_script c.call.new.script in let d = c.in_err-value-in-Call.field-0.0 in let sx = plain_script c.arguments.new.script in let eq : typed_expression c.args.e.now ≡ call c.in-Call.proc (arguments_of (map typed_argument c.deref-in-Call.result.now)) c.in-Call.result c.in-Call.site =
     call_seen c.args.e.now c.deref-in-Call.result.now c.in-Call.proc c.in-Call.es c.in-Call.result c.in-Call.site c.in-Call.is c.deref-in-Call.ensures.value in
     ended_by Value Value (λ s r s'. Replays types calls (typed_expression c.args.e.now) locals s r s') s0 s1 c.from_residual-in_err-value-in-Call.result d (err_from_is_err_and c.from_residual-in_err-value-in-Call.result c.from_residual-in_err-value-in-Call.ensures.1)
     (λ h. subst (λ e. Replays types calls e locals s0 (Err d) s1) (sym eq) (Ok c.in_ok-values-in-Call.values.items, sx, c.in_ok-values-in-Call.ensures, (Err d, s1, h, (refl, refl)))) c.in_err-value-in-Call.ensures
 
 pub expression-returns-in_ok-value-in-Call : goal.expression-returns-in_ok-value-in-Call
 expression-returns-in_ok-value-in-Call t c =
-    let types = types_in c.args.callees.now in let calls = calls_of c.args.callees.now in let locals = locals_map c.args.locals.now in let s0 = plain_script c.args.script.now in let sx = plain_script c.arguments.new.script in let s1 = plain_script c.call.new.script in let eq : typed_expression c.args.e.now ≡ call c.in-Call.proc (expressions_of (map typed_expression c.deref-in-Call.result.now)) c.in-Call.result c.in-Call.site =
+    let types = types_in c.args.callees.now in let calls = calls_of c.args.callees.now in let locals = locals_map c.args.locals.now in let s0 = plain_script c.args.script.now in let sx = plain_script c.arguments.new.script in let s1 = plain_script c.call.new.script in let eq : typed_expression c.args.e.now ≡ call c.in-Call.proc (arguments_of (map typed_argument c.deref-in-Call.result.now)) c.in-Call.result c.in-Call.site =
     call_seen c.args.e.now c.deref-in-Call.result.now c.in-Call.proc c.in-Call.es c.in-Call.result c.in-Call.site c.in-Call.is c.deref-in-Call.ensures.value in
     surely c.used-in-Call.result (subst (λ e. Replays types calls e locals s0 c.used-in-Call.result s1) (sym eq)
     (Ok c.in_ok-values-in-Call.values.items, sx, c.in_ok-values-in-Call.ensures, (Ok c.in_ok-value-in-Call.value, s1, c.in_ok-value-in-Call.ensures, (c.used-in-Call.ensures, refl))))
 
 pub statement-returns-in_err-values-in-Call : goal.statement-returns-in_err-values-in-Call
 statement-returns-in_err-values-in-Call t c =
-    let types = types_in c.args.callees.now in let calls = calls_of c.args.callees.now in let n = c.args.callees.now.depth in let l0 = locals_map c.args.locals.now in let s0 = plain_script c.args.script.now in let s1 = plain_script c.arguments.new.script in let d = c.in_err-values-in-Call.field-0.0 in let eq : typed_statement c.args.s.now ≡ run_call c.in-Call.proc (expressions_of (map typed_expression c.deref-in-Call.result.now)) c.in-Call.site =
-    ap typed_statement c.in-Call.is ∙ sym (ap (λ ls. run_call c.in-Call.proc (expressions_of (map typed_expression ls)) c.in-Call.site) c.deref-in-Call.ensures.value) in
+    let types = types_in c.args.callees.now in let calls = calls_of c.args.callees.now in let n = c.args.callees.now.depth in let l0 = locals_map c.args.locals.now in let s0 = plain_script c.args.script.now in let s1 = plain_script c.arguments.new.script in let d = c.in_err-values-in-Call.field-0.0 in let eq : typed_statement c.args.s.now ≡ run_call c.in-Call.proc (arguments_of (map typed_argument c.deref-in-Call.result.now)) c.in-Call.site =
+    ap typed_statement c.in-Call.is ∙ sym (ap (λ ls. run_call c.in-Call.proc (arguments_of (map typed_argument ls)) c.in-Call.site) c.deref-in-Call.ensures.value) in
     ended_by (Vec Value Global) Flow (λ s r s'. ReplaysStatement types calls n (typed_statement c.args.s.now) l0 s (ended r l0) s') s0 s1 c.from_residual.result d (err_from_is_err_and c.from_residual.result c.from_residual.ensures.1)
     (λ h. subst (λ t. ReplaysStatement types calls n t l0 s0 (Err d) s1) (sym eq) (Err d, s1, h, (refl, refl))) c.in_err-values-in-Call.ensures
 
 pub statement-returns-in_err-call-in-Call : goal.statement-returns-in_err-call-in-Call
 statement-returns-in_err-call-in-Call t c =
-    let types = types_in c.args.callees.now in let calls = calls_of c.args.callees.now in let n = c.args.callees.now.depth in let l0 = locals_map c.args.locals.now in let s0 = plain_script c.args.script.now in let s1 = plain_script c.arguments.new.script in let s2 = plain_script c.call.new.script in let d = c.in_err-call-in-Call.field-0.0 in let eq : typed_statement c.args.s.now ≡ run_call c.in-Call.proc (expressions_of (map typed_expression c.deref-in-Call.result.now)) c.in-Call.site =
-    ap typed_statement c.in-Call.is ∙ sym (ap (λ ls. run_call c.in-Call.proc (expressions_of (map typed_expression ls)) c.in-Call.site) c.deref-in-Call.ensures.value) in
+    let types = types_in c.args.callees.now in let calls = calls_of c.args.callees.now in let n = c.args.callees.now.depth in let l0 = locals_map c.args.locals.now in let s0 = plain_script c.args.script.now in let s1 = plain_script c.arguments.new.script in let s2 = plain_script c.call.new.script in let d = c.in_err-call-in-Call.field-0.0 in let eq : typed_statement c.args.s.now ≡ run_call c.in-Call.proc (arguments_of (map typed_argument c.deref-in-Call.result.now)) c.in-Call.site =
+    ap typed_statement c.in-Call.is ∙ sym (ap (λ ls. run_call c.in-Call.proc (arguments_of (map typed_argument ls)) c.in-Call.site) c.deref-in-Call.ensures.value) in
     ended_by Value Flow (λ s r s'. ReplaysStatement types calls n (typed_statement c.args.s.now) l0 s (ended r l0) s') s0 s2 c.from_residual-in_err-call-in-Call.result d (err_from_is_err_and c.from_residual-in_err-call-in-Call.result c.from_residual-in_err-call-in-Call.ensures.1)
     (λ h. subst (λ t. ReplaysStatement types calls n t l0 s0 (Err d) s2) (sym eq) (Ok c.in_ok-values-in-Call.values.items, s1, c.in_ok-values-in-Call.ensures, (Err d, s2, h, (refl, refl)))) c.in_err-call-in-Call.ensures
 
 pub statement-returns-in_ok-call-in-Call : goal.statement-returns-in_ok-call-in-Call
 statement-returns-in_ok-call-in-Call t c =
-    let types = types_in c.args.callees.now in let calls = calls_of c.args.callees.now in let n = c.args.callees.now.depth in let l0 = locals_map c.args.locals.now in let s0 = plain_script c.args.script.now in let s1 = plain_script c.arguments.new.script in let s2 = plain_script c.call.new.script in let eq : typed_statement c.args.s.now ≡ run_call c.in-Call.proc (expressions_of (map typed_expression c.deref-in-Call.result.now)) c.in-Call.site =
-    ap typed_statement c.in-Call.is ∙ sym (ap (λ ls. run_call c.in-Call.proc (expressions_of (map typed_expression ls)) c.in-Call.site) c.deref-in-Call.ensures.value) in
+    let types = types_in c.args.callees.now in let calls = calls_of c.args.callees.now in let n = c.args.callees.now.depth in let l0 = locals_map c.args.locals.now in let s0 = plain_script c.args.script.now in let s1 = plain_script c.arguments.new.script in let s2 = plain_script c.call.new.script in let eq : typed_statement c.args.s.now ≡ run_call c.in-Call.proc (arguments_of (map typed_argument c.deref-in-Call.result.now)) c.in-Call.site =
+    ap typed_statement c.in-Call.is ∙ sym (ap (λ ls. run_call c.in-Call.proc (arguments_of (map typed_argument ls)) c.in-Call.site) c.deref-in-Call.ensures.value) in
     subst (λ t. ReplaysStatement types calls n t l0 s0 (Ok (Falls, l0)) s2) (sym eq)
     (Ok c.in_ok-values-in-Call.values.items, s1, c.in_ok-values-in-Call.ensures, (Ok c.in_ok-call-in-Call.field-0, s2, c.in_ok-call-in-Call.ensures, (refl, refl)))
 
@@ -637,8 +636,8 @@ update-returns-in_ok-store-in-Cell t c =
 pub call-body-requires : goal.call-body-requires
 call-body-requires t c = (falls c.args.callees.now _ _ t c.decreases (omega (arith)), tt)
 
-pub arguments-expression-requires : goal.arguments-expression-requires
-arguments-expression-requires t c = let h = argument_in c.args.es.now c.loop-e.e-index c.e-item.result c.loop-e-test.true c.e-item.is in (falls c.args.callees.now _ _ t c.decreases (omega (arith, h)), tt)
+pub arguments-argument-requires : goal.arguments-argument-requires
+arguments-argument-requires t c = let h = argument_in c.args.es.now c.loop-e.e-index c.e-item.result c.loop-e-test.true c.e-item.is in (falls c.args.callees.now _ _ t c.decreases (omega (arith, h)), tt)
 
 pub statements-statement-requires : goal.statements-statement-requires
 statements-statement-requires t c = let h = statement_in c.args.all.now c.loop-s.s-index c.s-item.result c.loop-s-test.true c.s-item.is in (falls c.args.callees.now _ _ t c.decreases (omega (arith, h)), tt)
@@ -732,10 +731,10 @@ pub statement-update-requires : goal.statement-update-requires
 statement-update-requires t c = let h = ap statement_size (ap typed_statement c.in-Update.is ∙ sym (ap (λ e. update c.in-Update.operator (typed_place c.in-Update.place) (typed_expression e)) c.deref-in-Update.ensures)) in (falls c.args.callees.now _ _ t c.decreases (omega (arith, h)), tt)
 
 pub statement-arguments-requires : goal.statement-arguments-requires
-statement-arguments-requires t c = let h = ap statement_size (ap typed_statement c.in-Call.is ∙ sym (ap (λ ls. run_call c.in-Call.proc (expressions_of (map typed_expression ls)) c.in-Call.site) c.deref-in-Call.ensures.value)) in (falls c.args.callees.now _ _ t c.decreases (omega (arith, h)), tt)
+statement-arguments-requires t c = let h = ap statement_size (ap typed_statement c.in-Call.is ∙ sym (ap (λ ls. run_call c.in-Call.proc (arguments_of (map typed_argument ls)) c.in-Call.site) c.deref-in-Call.ensures.value)) in (falls c.args.callees.now _ _ t c.decreases (omega (arith, h)), tt)
 
 pub statement-call-requires : goal.statement-call-requires
-statement-call-requires t c = let h = ap statement_size (ap typed_statement c.in-Call.is ∙ sym (ap (λ ls. run_call c.in-Call.proc (expressions_of (map typed_expression ls)) c.in-Call.site) c.deref-in-Call.ensures.value)) in (falls c.args.callees.now _ _ t c.decreases (omega (arith, h)), tt)
+statement-call-requires t c = let h = ap statement_size (ap typed_statement c.in-Call.is ∙ sym (ap (λ ls. run_call c.in-Call.proc (arguments_of (map typed_argument ls)) c.in-Call.site) c.deref-in-Call.ensures.value)) in (falls c.args.callees.now _ _ t c.decreases (omega (arith, h)), tt)
 
 pub statement-expression-requires : goal.statement-expression-requires
 statement-expression-requires t c = let h = ap statement_size (ap typed_statement c.in-Free.is ∙ sym (ap (λ e. free (typed_expression e) c.in-Free.block c.in-Free.site) c.deref-in-Free.ensures)) in (falls c.args.callees.now _ _ t c.decreases (omega (arith, h)), tt)

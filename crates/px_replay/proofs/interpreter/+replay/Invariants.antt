@@ -1,7 +1,7 @@
 use Rattle.std.proofs.Common.{◌+◌, ◌*◌, ◌-◌, map, drop, option_map, Result, Bool, List}
 use Rattle.std.specs.Prelude.{⊤}
-use Rattle.px_syntax.specs.TypedTree.{expressions_of, statements_of}
-use Rattle.px_syntax.specs.TypedViews.{typed_expression, typed_condition, typed_statement, arithmetic_link, relation_link, calculated, compared, cells, all_of, any_of}
+use Rattle.px_syntax.specs.TypedTree.{expressions_of, arguments_of, statements_of}
+use Rattle.px_syntax.specs.TypedViews.{typed_expression, typed_argument, typed_condition, typed_statement, arithmetic_link, relation_link, calculated, compared, cells, all_of, any_of}
 use Rattle.px_meaning.specs.Values.{Value}
 use Rattle.px_replay.specs.declared.stop.Stop.{Stop}
 use Rattle.px_replay.specs.Script.{PlainScript, plain_script}
@@ -10,15 +10,15 @@ use Rattle.px_replay.specs.Locals.{locals_map}
 use Rattle.px_replay.specs.TreeReplay.{Ended, ReplaysAll, PassesAll, loops, ReplaysStatement, ReplaysStatements, Replays, Checks}
 use Rattle.px_replay.specs.ChainReplay.{onto, chained, loads_link, calculates_link, compares_link, and_link, or_link}
 use Rattle.px_syntax.specs.TypedViews.{typed_place}
-use Rattle.px_replay.proofs.Sizes.{size_of, sizes_of, test_size, value_size, test_size_if, place_size, statement_size, statements_size, left_at}
+use Rattle.px_replay.proofs.Sizes.{size_of, sizes_of, arguments_size, argument_size, test_size, value_size, test_size_if, place_size, statement_size, statements_size, left_at}
 use Rattle.px_replay.proofs.interpreter.+replay.Given as goal
 
 -- what the rest gives, put after the values so far, is what all give
 abbrev pub invariant-arguments-loop-e : goal.invariant-arguments-loop-e
 invariant-arguments-loop-e l =
     (r : Result (List Value) Stop) (s' : PlainScript) →
-    ReplaysAll (types_in l.callees) (calls_of l.callees) (expressions_of (map typed_expression (drop l.e-index l.es))) (locals_map l.locals) (plain_script l.script) r s' →
-    ReplaysAll (types_in l.callees) (calls_of l.callees) (expressions_of (map typed_expression l.es)) (locals_map l.locals) (plain_script l.fn.script) (onto l.values.items r) s'
+    ReplaysAll (types_in l.callees) (calls_of l.callees) (arguments_of (map typed_argument (drop l.e-index l.es))) (locals_map l.locals) (plain_script l.script) r s' →
+    ReplaysAll (types_in l.callees) (calls_of l.callees) (arguments_of (map typed_argument l.es)) (locals_map l.locals) (plain_script l.fn.script) (onto l.values.items r) s'
 
 -- whatever comes of what is left, comes of all
 abbrev pub invariant-effects-loop-e : goal.invariant-effects-loop-e
@@ -97,7 +97,10 @@ abbrev pub decreases-condition : goal.decreases-condition
 decreases-condition l = left_at l.callees.now (3 * test_size (typed_condition l.c.now))
 
 abbrev pub decreases-arguments : goal.decreases-arguments
-decreases-arguments l = left_at l.callees.now (3 * sizes_of (expressions_of (map typed_expression l.es.now)) + 1)
+decreases-arguments l = left_at l.callees.now (3 * arguments_size (arguments_of (map typed_argument l.es.now)) + 2)
+
+abbrev pub decreases-argument : goal.decreases-argument
+decreases-argument l = left_at l.callees.now (3 * argument_size (typed_argument l.e.now) + 1)
 
 abbrev pub decreases-effects : goal.decreases-effects
 decreases-effects l = left_at l.callees.now (3 * sizes_of (expressions_of (map typed_expression l.es.now)) + 2)

@@ -11,7 +11,7 @@ use Rattle.px_terms.proofs.Recursion.{all_push}
 
 pub returns-in_err-monomial-clause-reads : goal.returns-in_err-monomial-clause-reads
 returns-in_err-monomial-clause-reads c =
-    let p = err_from_is_err_and c.from_residual.result c.from_residual.ensures.1 in
+    let p = err_from_is_err_and c.from_residual-in_err-monomial.result c.from_residual-in_err-monomial.ensures.1 in
     rw (p.1, p.2) (ends c.in_err-monomial.field-0.0 term_at (map term_of c.loop.monomials.items) c.args.count c.loop.counter c.loop.rest.now (items_at term_at c.args.count c.args.bytes.now) c.loop-test.true c.in_err-monomial.ensures.reads c.loop.invariant.reads)
 
 pub loop-preserved : goal.loop-preserved

@@ -7,8 +7,8 @@ use Rattle.px_spelling.proofs.spell.read_all.Given as goal
 -- what was read and what is still read are all
 abbrev pub invariant-loop : goal.invariant-loop
 invariant-loop g l = record {
-  reads : with_front l.items (items_at (g.T.WireWith.at_with (g.S.Terms.spelling l.terms)) (l.count - l.counter) l.rest) ≡ items_at (g.T.WireWith.at_with (g.S.Terms.spelling l.terms)) l.count l.bytes;
-  spelled : l.bytes ≡ flat_map (g.T.WireWith.bytes_with (g.S.Terms.spelling l.terms)) l.items ++ l.rest;
-  many : length l.items ≡ l.counter;
-  fits : AllByRecursion (g.T.WireWith.fits_with (g.S.Terms.spelling l.terms)) l.items;
+  reads : with_front l.items.items (items_at (g.T.WireWith.at_with (g.S.Terms.spelling l.terms)) (l.count - l.counter) l.rest) ≡ items_at (g.T.WireWith.at_with (g.S.Terms.spelling l.terms)) l.count l.bytes;
+  spelled : l.bytes ≡ flat_map (g.T.WireWith.bytes_with (g.S.Terms.spelling l.terms)) l.items.items ++ l.rest;
+  many : length l.items.items ≡ l.counter;
+  fits : AllByRecursion (g.T.WireWith.fits_with (g.S.Terms.spelling l.terms)) l.items.items;
 }
