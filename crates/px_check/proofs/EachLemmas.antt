@@ -7,21 +7,21 @@ use Rattle.px_entry.specs.declared.entries.Entry.{Entry}
 use Rattle.px_callgraph.specs.JobTree.{JobTree}
 use Rattle.px_callgraph.specs.Derivations.{Derives, FailsFirst}
 use Rattle.px_check.specs.declared.checked.Checked.{Checked}
-use Rattle.px_check.specs.Answers.{entry_of, job_of, AreChecked, FirstFails}
+use Rattle.px_check.specs.Answers.{entry_of, job_of, AreCheckedBy, IsFirstRefused}
 
 -- What is checked so far, and the entries that are left, with their derivations from a place on: what is said of these is
 -- said of all.
 pub record IsUnderWay (j : JobTree) (entries : List Entry) (derivations : List Derivation) (all : List Checked) (left : List Entry) (place : ℕ) : Type 0 where
   pub even : place + length left ≡ length derivations
-  pub checks : (cs : List Checked) → AreChecked j left (drop place derivations) cs → AreChecked j entries derivations (all ++ cs)
-  pub fails : (n i : ℕ) (r : Rule) → FirstFails j left (drop place derivations) n i r → FirstFails j entries derivations (place + n) i r
+  pub checks : (cs : List Checked) → AreCheckedBy j left (drop place derivations) cs → AreCheckedBy j entries derivations (all ++ cs)
+  pub fails : (n i : ℕ) (r : Rule) → IsFirstRefused j left (drop place derivations) n i r → IsFirstRefused j entries derivations (place + n) i r
 
 pub begins : (j : JobTree) (entries left : List Entry) (derivations : List Derivation) (all : List Checked) → length entries ≡ length derivations → left ≡ entries → all ≡ [] →
     IsUnderWay j entries derivations all left 0
 begins j entries left derivations all even same none = record {
   even = ap length same ∙ even;
-  checks = λ cs h. subst (λ z. AreChecked j entries derivations (z ++ cs)) (sym none) (subst (λ z. AreChecked j z derivations cs) same h);
-  fails = λ n i r h. subst (λ z. FirstFails j z derivations n i r) same h;
+  checks = λ cs h. subst (λ z. AreCheckedBy j entries derivations (z ++ cs)) (sym none) (subst (λ z. AreCheckedBy j z derivations cs) same h);
+  fails = λ n i r h. subst (λ z. IsFirstRefused j z derivations n i r) same h;
 }
 
 module _ (j : JobTree) (entries : List Entry) (derivations : List Derivation) (all : List Checked) (left rest : List Entry) (place : ℕ) (x : Entry) (next : left ≡ x ∷ rest)
@@ -34,11 +34,11 @@ module _ (j : JobTree) (entries : List Entry) (derivations : List Derivation) (a
     there = ap (λ z. z ∷ drop (place + 1) derivations) at ∙ sym (drop_more derivations place d in_bounds)
 
     -- the next entry fails
-    pub fails_there : (i : ℕ) (r : Rule) → FailsFirst j x d.steps i r → FirstFails j entries derivations place i r
+    pub fails_there : (i : ℕ) (r : Rule) → FailsFirst j x d.steps i r → IsFirstRefused j entries derivations place i r
     fails_there i r h =
         let e : place + 0 ≡ place = omega arith in
-        subst (λ n. FirstFails j entries derivations n i r) e
-        (u.fails 0 i r (subst (λ ds. FirstFails j left ds 0 i r) there (subst (λ z. FirstFails j z (d ∷ drop (place + 1) derivations) 0 i r) (sym next) h)))
+        subst (λ n. IsFirstRefused j entries derivations n i r) e
+        (u.fails 0 i r (subst (λ ds. IsFirstRefused j left ds 0 i r) there (subst (λ z. IsFirstRefused j z (d ∷ drop (place + 1) derivations) 0 i r) (sym next) h)))
 
     -- or is checked
     pub one_more : (c : Checked) (new : List Checked) (m : ℕ) → entry_of c ≡ x → job_of c ≡ j → Derives j x d.steps → new ≡ all ++ c ∷ [] → m ≡ place + 1 →
@@ -46,25 +46,25 @@ module _ (j : JobTree) (entries : List Entry) (derivations : List Derivation) (a
     one_more c new m entry job derives pushed e = subst (λ n. IsUnderWay j entries derivations new rest n) (sym e) (record {
       even = let f : place + suc (length rest) ≡ length derivations = ap (λ z. place + length z) (sym next) ∙ u.even in omega (arith, f);
       checks = λ cs h.
-          subst (AreChecked j entries derivations) (sym (append_assoc all (c ∷ []) cs) ∙ ap (λ z. z ++ cs) (sym pushed))
+          subst (AreCheckedBy j entries derivations) (sym (append_assoc all (c ∷ []) cs) ∙ ap (λ z. z ++ cs) (sym pushed))
           (u.checks (c ∷ cs)
-              (subst (λ ds. AreChecked j left ds (c ∷ cs)) there
-                  (subst (λ z. AreChecked j z (d ∷ drop (place + 1) derivations) (c ∷ cs)) (sym next) (entry, job, derives, h))));
+          (subst (λ ds. AreCheckedBy j left ds (c ∷ cs)) there
+          (subst (λ z. AreCheckedBy j z (d ∷ drop (place + 1) derivations) (c ∷ cs)) (sym next) (entry, job, derives, h))));
       fails = λ n i r h.
           let f : place + suc n ≡ place + 1 + n = omega arith in
-          subst (λ m. FirstFails j entries derivations m i r) f
+          subst (λ m. IsFirstRefused j entries derivations m i r) f
           (u.fails (suc n) i r
-              (subst (λ ds. FirstFails j left ds (suc n) i r) there
-                  (subst (λ z. FirstFails j z (d ∷ drop (place + 1) derivations) (suc n) i r) (sym next) (derives, h))));
+          (subst (λ ds. IsFirstRefused j left ds (suc n) i r) there
+          (subst (λ z. IsFirstRefused j z (d ∷ drop (place + 1) derivations) (suc n) i r) (sym next) (derives, h))));
     })
 
 pub ends : (j : JobTree) (entries left : List Entry) (derivations : List Derivation) (all : List Checked) (place : ℕ) → left ≡ [] → IsUnderWay j entries derivations all left place →
-    AreChecked j entries derivations all
+    AreCheckedBy j entries derivations all
 ends j entries left derivations all place none u =
     let e : place + 0 ≡ length derivations = ap (λ z. place + length z) (sym none) ∙ u.even in
     let f : length derivations ≡ place = omega (arith, e) in
-    subst (AreChecked j entries derivations) (append-nil all)
-    (u.checks [] (subst (λ z. AreChecked j z (drop place derivations) []) (sym none) (subst (λ ds. AreChecked j [] ds []) (sym (all_gone derivations place f)) tt)))
+    subst (AreCheckedBy j entries derivations) (append-nil all)
+    (u.checks [] (subst (λ z. AreCheckedBy j z (drop place derivations) []) (sym none) (subst (λ ds. AreCheckedBy j [] ds []) (sym (all_gone derivations place f)) tt)))
   where
     all_gone : (ds : List Derivation) (n : ℕ) → length ds ≡ n → drop n ds ≡ []
     all_gone [] zero e = refl

@@ -1,7 +1,7 @@
 -- What stays true while steps are followed.
-use Rattle.std.proofs.Common.{◌≡◌, ℕ, zero, suc, ◌+◌, ◌*◌, ◌<◌, ◌≤◌, List, [], ◌∷◌, ◌++◌, length, take, drop, Option, Some, None, true, false, refl, sym, ◌∙◌, ap, subst, append_assoc, length-append, arith}
+use Rattle.std.proofs.Common.{◌≡◌, ℕ, zero, suc, ◌+◌, ◌*◌, ◌<◌, ◌≤◌, List, [], ◌∷◌, ◌++◌, length, min, take, drop, Option, Some, None, true, false, refl, sym, ◌∙◌, ap, subst, append_assoc, length-append, arith}
 use Rattle.std.proofs.Math.Seq.{take-append_seam}
-use Rattle.std.proofs.lemmas.List.{take-append-drop}
+use Rattle.std.proofs.lemmas.List.{take-append-drop, length-take}
 use Rattle.px_terms.specs.declared.conjuncts.Content.{Content}
 use Rattle.px_entry.specs.declared.derivations.Rule.{Rule}
 use Rattle.px_entry.specs.declared.derivations.Step.{Step}
@@ -44,10 +44,10 @@ turn_course j w i n [] more a (silent, leads) =
   where
     same : (i : ℕ) → i ≡ i + 0
     same i = omega arith
-turn_course j w i n (st ∷ used) more a (own, leads, use) =
+turn_course j w i n (st ∷ used) more a (own, leads, owed) =
     ap (by_item j (course n j) i (st ∷ used ++ more) w) own
     ∙ ap (onward (fails_at i st.rule) (by_use (course n j) (suc i) (used ++ more) (length w.state.atoms) (use_rule w.control st.rule))) leads
-    ∙ by_owed used (use_rule w.control st.rule) use
+    ∙ by_owed used (use_rule w.control st.rule) owed
   where
     one : (i : ℕ) → suc i ≡ i + 1
     one i = omega arith
@@ -59,11 +59,11 @@ turn_course j w i n (st ∷ used) more a (own, leads, use) =
         by_use (course n j) (suc i) (used ++ more) (length w.state.atoms) o a ≡ course n j (i + suc (length used)) more a
     by_owed [] None u = ap (λ k. course n j k more a) (one i)
     by_owed [] (Some r) u = absurd u
-    by_owed (st ∷ []) None u = absurd u
-    by_owed (st ∷ []) (Some r) u =
-        ap (λ b. elim b as (λ _. Course) [ true ↦ course n j (suc (suc i)) more a | false ↦ fails_at (suc i) st.rule ]) u ∙ ap (λ k. course n j k more a) (two i)
-    by_owed (st ∷ other ∷ used) None u = absurd u
-    by_owed (st ∷ other ∷ used) (Some r) u = absurd u
+    by_owed (last ∷ []) None u = absurd u
+    by_owed (last ∷ []) (Some r) u =
+        ap (λ b. elim b as (λ _. Course) [ true ↦ course n j (suc (suc i)) more a | false ↦ fails_at (suc i) last.rule ]) u ∙ ap (λ k. course n j k more a) (two i)
+    by_owed (last ∷ other ∷ others) None u = absurd u
+    by_owed (last ∷ other ∷ others) (Some r) u = absurd u
 
 -- which are two steps at most
 at_most_two : (j : JobTree) (w : Walk) (taken : List Step) (a : Leads) → IsTurn j w taken a → length taken ≤ 2
@@ -72,9 +72,9 @@ at_most_two j w (st ∷ used) a t = by_owed used (use_rule w.control st.rule) t.
   where
     by_owed : (used : List Step) (o : Option Rule) → IsUse (length w.state.atoms) o used → suc (length used) ≤ 2
     by_owed [] o u = omega arith
-    by_owed (st ∷ []) o u = omega arith
-    by_owed (st ∷ other ∷ used) None u = absurd u
-    by_owed (st ∷ other ∷ used) (Some r) u = absurd u
+    by_owed (last ∷ []) o u = omega arith
+    by_owed (last ∷ other ∷ others) None u = absurd u
+    by_owed (last ∷ other ∷ others) (Some r) u = absurd u
 
 -- the steps up to the next place are those up to here and those that a turn takes
 taken_more : (steps taken : List Step) (i k : ℕ) → AreBetween steps i k taken → take k steps ≡ take i steps ++ taken
@@ -91,6 +91,10 @@ module _ (j : JobTree) (steps : List Step) (i : ℕ) (a : Leads) (h : Follows j 
   rest_is : (n : ℕ) → (m : ℕ) × (course m j 0 steps (Next (start j)) ≡ course n j i (drop i steps) a)
   rest_is n = let r = h.course_is (drop i steps) n in (r.0, ap (λ z. course r.0 j 0 z (Next (start j))) (sym (take-append-drop i steps)) ∙ r.1)
 
+-- the place is that of one of these steps, or behind them
+pub within : (j : JobTree) (steps : List Step) (i : ℕ) (a : Leads) → Follows j (take i steps) i a → i ≤ length steps
+within j steps i a h = let e : min i (length steps) ≡ i = sym (length-take i steps) ∙ h.size in omega (arith, e)
+
 module _ (j : JobTree) (steps : List Step) (i : ℕ) (w : Walk) (h : Follows j (take i steps) i (Next w)) where
   pub goes : (k : ℕ) (taken : List Step) (a : Leads) → AreBetween steps i k taken → IsTurn j w taken a → Follows j (take k steps) k a
   goes k taken a b t =
@@ -102,7 +106,7 @@ module _ (j : JobTree) (steps : List Step) (i : ℕ) (w : Walk) (h : Follows j (
             let r = h.course_is (taken ++ more) (suc n) in (
               r.0,
               ap (λ z. course r.0 j 0 z (Next (start j))) (append_assoc (take i steps) taken more) ∙ r.1 ∙ turn_course j w i n taken more a t
-              ∙ ap (λ m. course n j m more a) (sym b.1),
+                  ∙ ap (λ m. course n j m more a) (sym b.1),
             );
         sound = kept.sound;
         free = kept.free;

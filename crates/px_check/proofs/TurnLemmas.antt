@@ -44,9 +44,12 @@ gone (y ∷ ys) (suc i) e = gone ys i e
 
 -- ---- what takes no step
 
+same_place : (i : ℕ) → i ≡ i + 0
+same_place i = omega arith
+
 module _ (j : JobTree) (i : ℕ) (steps : List Step) (w : Walk) (silent : is_silent w.control ≡ true) where
   pub silent_goes : (a : StepOutcome WalkOf) → Some (leads_of a) ≡ take_listed j w way.On → TakesTurn j steps w i (Goes i a)
-  silent_goes a e = ([], (refl, omega arith), (silent, sym e))
+  silent_goes a e = ([], (refl, same_place i), (silent, sym e))
 
   pub silent_fails : None ≡ take_listed j w way.On → TakesTurn j steps w i (Fails i)
   silent_fails e = (
@@ -139,18 +142,16 @@ module _ (j : JobTree) (w : Walk) (next : Upcoming) (rest : List Item) (is : IsN
     )
 
     pub step_goes : (k : ℕ) → IsBehindUse steps (i + 1) m r (Some k) → TakesTurn j steps w i (Goes k a)
-    step_goes k (used, (e, f), u) = (
-      st ∷ used,
-      (
-        got steps i st here ∙ ap (λ n. st ∷ drop n steps) (suc_is i) ∙ ap (λ zs. st ∷ zs) e,
-        omega (arith, f),
-      ),
-      (
-        own,
-        sym taken ∙ ap (option_map leads_of) leads,
-        subst (λ q. IsUse q (use_rule w.control st.rule) used) count (subst (λ q. IsUse m q used) owed_is u),
-      ),
-    )
+    step_goes k (used, (e, f), u) =
+        let g : k ≡ i + suc (length used) = omega (arith, f) in (
+          st ∷ used,
+          (got steps i st here ∙ ap (λ n. st ∷ drop n steps) (suc_is i) ∙ ap (λ zs. st ∷ zs) e, g),
+          (
+            own,
+            sym taken ∙ ap (option_map leads_of) leads,
+            subst (λ q. IsUse q (use_rule w.control st.rule) used) count (subst (λ q. IsUse m q used) owed_is u),
+          ),
+        )
       where
         suc_is : (n : ℕ) → suc n ≡ n + 1
         suc_is n = omega arith
@@ -172,7 +173,7 @@ is_used steps i n r h = by (drop i steps) (λ st rest e. drop_next steps i st re
     by [] f e h = cc
     by (st ∷ rest) f e h =
         let z : suc i ≡ i + 1 = omega arith in
-        (st ∷ [], (e ∙ ap (λ zs. st ∷ zs) (sym (f st rest refl)) ∙ ap (λ k. st ∷ drop k steps) z, omega arith), h)
+        (st ∷ [], (e ∙ ap (λ zs. st ∷ zs) (sym (f st rest refl)) ∙ ap (λ k. st ∷ drop k steps) z, refl), h)
 
 pub not_used_there : (steps : List Step) (i n : ℕ) (r : Rule) → is_step_that (uses_atom r n) (drop i steps) ≡ false → IsBehindUse steps i n (Some r) None
 not_used_there steps i n r h go a = by (drop i steps) h
@@ -182,7 +183,7 @@ not_used_there steps i n r h go a = by (drop i steps) h
     by (st ∷ rest) h = ap (λ b. elim b as (λ _. Course) [ true ↦ go (suc i) rest a | false ↦ fails_at i st.rule ]) h
 
 pub none_owed : (steps : List Step) (i n : ℕ) → IsBehindUse steps i n None (Some i)
-none_owed steps i n = ([], (refl, omega arith), tt)
+none_owed steps i n = ([], (refl, same_place i), tt)
 
 at_end_is : (i : ℕ) (s : State) (exit : Exit) (r : Option Content) (st : Step) (rest : List Step) → is_end st ≡ true → comes_to i s exit r rest ≡ at_end i s exit r (st ∷ rest)
 at_end_is i s exit r st rest h =

@@ -50,19 +50,19 @@ IsAnswer j x steps (Err (Refused i r y)) = (y ≡ x) × FailsFirst j x steps i r
 IsAnswer j x steps (Err NoMemory) = ⊤
 
 -- Each of these is the entry itself and its job, and derives by the derivation beside it; there are as many of all three.
-abbrev pub AreChecked : JobTree → List Entry → List Derivation → List Checked → Type 0
-AreChecked j [] [] [] = ⊤
-AreChecked j (x ∷ xs) (d ∷ ds) (c ∷ cs) = (entry_of c ≡ x) × (job_of c ≡ j) × Derives j x d.steps × AreChecked j xs ds cs
-AreChecked j _ _ _ = ⊥
+abbrev pub AreCheckedBy : JobTree → List Entry → List Derivation → List Checked → Type 0
+AreCheckedBy j [] [] [] = ⊤
+AreCheckedBy j (x ∷ xs) (d ∷ ds) (c ∷ cs) = (entry_of c ≡ x) × (job_of c ≡ j) × Derives j x d.steps × AreCheckedBy j xs ds cs
+AreCheckedBy j _ _ _ = ⊥
 
 -- the entry at this place is the first that isn't derived by the derivation beside it, of which this step fails first
-abbrev pub FirstFails : JobTree → List Entry → List Derivation → ℕ → ℕ → Rule → Type 0
-FirstFails j (x ∷ xs) (d ∷ ds) zero i r = FailsFirst j x d.steps i r
-FirstFails j (x ∷ xs) (d ∷ ds) (suc n) i r = Derives j x d.steps × FirstFails j xs ds n i r
-FirstFails j _ _ n i r = ⊥
+abbrev pub IsFirstRefused : JobTree → List Entry → List Derivation → ℕ → ℕ → Rule → Type 0
+IsFirstRefused j (x ∷ xs) (d ∷ ds) zero i r = FailsFirst j x d.steps i r
+IsFirstRefused j (x ∷ xs) (d ∷ ds) (suc n) i r = Derives j x d.steps × IsFirstRefused j xs ds n i r
+IsFirstRefused j _ _ n i r = ⊥
 
 -- The same of entries and the derivations beside them: all of them, where each derives; else the first that doesn't.
 abbrev pub AreAnswers : JobTree → List Entry → List Derivation → Result (List Checked) TableFault → Type 0
-AreAnswers j xs ds (Ok cs) = AreChecked j xs ds cs
-AreAnswers j xs ds (Err (table.Refused n i r)) = FirstFails j xs ds n i r
+AreAnswers j xs ds (Ok cs) = AreCheckedBy j xs ds cs
+AreAnswers j xs ds (Err (table.Refused n i r)) = IsFirstRefused j xs ds n i r
 AreAnswers j xs ds (Err table.NoMemory) = ⊤

@@ -1,6 +1,5 @@
-ghost use Rattle.std.specs.Prelude.{◌+◌, ◌<◌, ◌^◌, List, take, All, IfOk, OnOk};
-ghost use Rattle.px_entry.specs.declared.derivations.Step.{Step as StepOf};
-ghost use Rattle.px_callgraph.specs.JobTree.{job_tree};
+ghost use Rattle.std.specs.Prelude.{◌+◌, ◌<◌, ◌≤◌, ◌^◌, length, take, All, IfOk, IfSome, OnOk};
+ghost use Rattle.px_callgraph.specs.JobTree.{JobTree, job_tree};
 ghost use Rattle.px_callgraph.specs.declared.outcomes.StepOutcome.TheVariants as outcome;
 ghost use Rattle.px_walks.specs.Walks.{walk_of};
 ghost use Rattle.px_check.specs.Follows.{Follows, IsForkOf, IsForkFor};
@@ -22,28 +21,33 @@ pub(crate) struct Fork<'a, 's> {
     pub(crate) walk: Walk<'a>,
 }
 
-// The start of a job's procedure, where no step leads.
-fn first_fork<'a, 's>(alloc: Global, job: &'a Job) -> Result<Fork<'a, 's>, NoMemory>
-    ensures { IfOk result (λ f. (steps : List StepOf) → IsForkFor (job_tree job.now) steps f) }
+// The start of a job's procedure, where none of the steps led.
+fn first_fork<'a, 's>(
+    alloc: Global,
+    job: &'a Job,
+    steps: &'s [Step],
+) -> Result<Fork<'a, 's>, NoMemory>
+    ensures { IfOk result (IsForkFor (job_tree job.now) steps.now) }
 {
     Ok(Fork {
-        taken: &[],
+        taken: &steps[..0],
         place: 0,
         walk: start(alloc, job)?,
     })
 }
 
-// A copy of a fork is put upon the others.
+// A copy of a fork is put upon the others, if it doesn't stand behind a place.
 fn put_copy<'a, 's>(
     alloc: Global,
-    job: &Job,
     fork: &Fork<'a, 's>,
+    place: usize,
     forks: &mut Vec<Fork<'a, 's>>,
 ) -> Result<(), NoMemory>
-    requires fork { IsForkOf (job_tree job.now) fork.now }
-    requires forks { All (IsForkOf (job_tree job.now)) forks.old.items }
-    ensures { OnOk result (All (IsForkOf (job_tree job.now)) forks.new.items) }
+    ensures { (j : JobTree) → IsForkOf j fork.now → All (IsForkOf j) forks.old.items → OnOk result (All (IsForkOf j) forks.new.items) }
 {
+    if fork.place as usize > place {
+        return Ok(());
+    }
     forks.push(Fork {
         taken: fork.taken,
         place: fork.place,
@@ -53,9 +57,8 @@ fn put_copy<'a, 's>(
 }
 
 // Takes the forks off that stand behind a place.
-fn go_back(job: &Job, forks: &mut Vec<Fork>, place: usize)
-    requires { All (IsForkOf (job_tree job.now)) forks.old.items }
-    ensures { All (IsForkOf (job_tree job.now)) forks.new.items }
+fn go_back(forks: &mut Vec<Fork>, place: usize)
+    ensures { (j : JobTree) → All (IsForkOf j) forks.old.items → All (IsForkOf j) forks.new.items }
 {
     while let Some(fork) = forks.last() {
         if fork.place as usize <= place {
@@ -65,8 +68,27 @@ fn go_back(job: &Job, forks: &mut Vec<Fork>, place: usize)
     }
 }
 
-/// Where the steps with this number go on: at the last fork whose steps they begin with, else at the start. It is left
-/// where it stands, if the next ones go on there too.
+// Takes the last fork off that doesn't stand behind a place, if steps begin with those that lead to it.
+fn last_shared<'a, 's>(
+    steps: &[Step],
+    place: usize,
+    forks: &mut Vec<Fork<'a, 's>>,
+) -> Option<Fork<'a, 's>>
+    ensures fork { (j : JobTree) → All (IsForkOf j) forks.old.items → IfSome result (IsForkFor j steps.now) }
+    ensures forks { (j : JobTree) → All (IsForkOf j) forks.old.items → All (IsForkOf j) forks.new.items }
+{
+    go_back(forks, place);
+    let Some(fork) = forks.pop() else {
+        return None;
+    };
+    if shared_steps(fork.taken, steps) < fork.taken.len() {
+        return None;
+    }
+    Some(fork)
+}
+
+/// Where the steps with this number go on: at the last fork whose steps they begin with, else at the start. A copy is
+/// left, if the next ones go on there too.
 pub(crate) fn take_fork<'a, 's>(
     alloc: Global,
     job: &'a Job,
@@ -80,23 +102,16 @@ pub(crate) fn take_fork<'a, 's>(
     ensures fork { IfOk result (IsForkFor (job_tree job.now) steps.now) }
     ensures forks { OnOk result (All (IsForkOf (job_tree job.now)) forks.new.items) }
 {
-    go_back(job, forks, plan.shared_at(number));
-    let Some(fork) = forks.pop() else {
-        return first_fork(alloc, job);
+    let Some(fork) = last_shared(steps, plan.shared_at(number), forks) else {
+        return first_fork(alloc, job, steps);
     };
-    if shared_steps(fork.taken, steps) < fork.taken.len() {
-        return first_fork(alloc, job);
-    }
-    if fork.place as usize <= plan.shared_at(number + 1) {
-        put_copy(alloc, job, &fork, forks)?;
-    }
+    put_copy(alloc, &fork, plan.shared_at(number + 1), forks)?;
     Ok(fork)
 }
 
 /// Keeps the place where steps lead, where the last of these places is reached, and answers how many are left.
 pub(crate) fn keep<'a, 's>(
     alloc: Global,
-    job: &Job,
     steps: &'s [Step],
     place: u32,
     walk: &Walk<'a>,
@@ -104,9 +119,8 @@ pub(crate) fn keep<'a, 's>(
     left: usize,
     forks: &mut Vec<Fork<'a, 's>>,
 ) -> Result<usize, NoMemory>
-    requires here { Follows (job_tree job.now) (take place steps.now) place (outcome.Next (walk_of walk.now)) }
-    requires forks { All (IsForkOf (job_tree job.now)) forks.old.items }
-    ensures { OnOk result (All (IsForkOf (job_tree job.now)) forks.new.items) }
+    requires { place ≤ length steps.now }
+    ensures { (j : JobTree) → Follows j (take place steps.now) place (outcome.Next (walk_of walk.now)) → All (IsForkOf j) forks.old.items → OnOk result (All (IsForkOf j) forks.new.items) }
 {
     if left == 0 {
         return Ok(0);

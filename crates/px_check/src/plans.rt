@@ -16,7 +16,7 @@ pub(crate) struct Plan {
 }
 
 /// A place where a derivation goes its own way.
-#[derive(Clone, Copy, Drop)]
+#[derive(Clone, Copy)]
 struct Turnoff {
     number: usize,
     place: usize,

@@ -96,7 +96,7 @@ pub(crate) fn follow<'a, 's>(
     loop {
         match leads {
             StepOutcome::Next(walk) => {
-                left = keep(alloc, job, steps, place, &walk, wanted, left, forks)?;
+                left = keep(alloc, steps, place, &walk, wanted, left, forks)?;
                 match do_next(alloc, job, steps, place, walk)? {
                     Turn::Goes(next, to) => {
                         place = next;

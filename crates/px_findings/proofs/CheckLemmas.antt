@@ -10,8 +10,7 @@ use Rattle.px_explore.specs.Derived.{AreDerived}
 use Rattle.px_check.specs.declared.checked.Checked.{Checked}
 use Rattle.px_check.specs.declared.checked.TableFault.{TableFault}
 use Rattle.px_check.specs.declared.checked.TableFault.TheVariants.{Refused}
-use Rattle.px_check.specs.Answers.{entry_of, FirstFails, AreAnswers}
-use Rattle.px_check.specs.Answers as answers
+use Rattle.px_check.specs.Answers.{entry_of, AreCheckedBy, IsFirstRefused, AreAnswers}
 use Rattle.px_pieces.specs.declared.findings.Part.TheVariants.{Tabled}
 use Rattle.px_findings.specs.Jobs.{AreChecked, IsAnalysed}
 use Rattle.px_check.proofs.OneOutcomeLemmas.{one_outcome}
@@ -22,7 +21,7 @@ as_many j [] ds h = sym (ap length h)
 as_many j (x ∷ xs) [] h = absurd h
 as_many j (x ∷ xs) (d ∷ ds) h = ap suc (as_many j xs ds h.1)
 
-none_fails : (j : JobTree) (xs : List Entry) (ds : List Derivation) (n i : ℕ) (r : Rule) → AreDerived j xs ds → FirstFails j xs ds n i r → ⊥
+none_fails : (j : JobTree) (xs : List Entry) (ds : List Derivation) (n i : ℕ) (r : Rule) → AreDerived j xs ds → IsFirstRefused j xs ds n i r → ⊥
 none_fails j [] ds n i r h f = f
 none_fails j (x ∷ xs) [] n i r h f = h
 none_fails j (x ∷ xs) (d ∷ ds) zero i r h f = one_outcome.apart j x d.steps i r h.0 f
@@ -34,7 +33,7 @@ pub never_refused : (j : JobTree) (xs : List Entry) (ds : List Derivation) (r : 
 never_refused j xs ds r f n i q derived answer is which = none_fails j xs ds n i q derived (subst (AreAnswers j xs ds) (is ∙ ap Err which) answer)
 
 -- what is checked are the entries
-pub all_checked : (j : JobTree) (xs : List Entry) (ds : List Derivation) (cs : List Checked) → answers.AreChecked j xs ds cs → AreChecked j xs cs
+pub all_checked : (j : JobTree) (xs : List Entry) (ds : List Derivation) (cs : List Checked) → AreCheckedBy j xs ds cs → AreChecked j xs cs
 all_checked j [] [] [] h = (refl, tt)
 all_checked j (x ∷ xs) (d ∷ ds) (c ∷ cs) h =
     let rest = all_checked j xs ds cs h.3 in

@@ -5,28 +5,30 @@ use Rattle.px_callgraph.specs.declared.outcomes.StepOutcome.TheVariants.{Cut, Pa
 use Rattle.px_walks.specs.Walks.{leads_of}
 use Rattle.px_check.specs.Follows.{Follows}
 use Rattle.px_check.proofs.ForkLemmas.{goes_on}
-use Rattle.px_check.proofs.FollowLemmas.{here, goes_by, falls_by, fails_by, ends_there, is_cut}
+use Rattle.px_check.proofs.FollowLemmas.{within, here, goes_by, falls_by, fails_by, ends_there, is_cut}
 use Rattle.px_check.proofs.steps.follow.Goals as goal
 
 pub loop-leads-init : goal.loop-leads-init
 loop-leads-init c = (goes_on (job_tree c.args.job.now) c.args.steps.now c.args.from c.requires.from, c.requires.forks)
 
-pub keep-requires-clause-here : goal.keep-requires-clause-here
-keep-requires-clause-here c = here (job_tree c.args.job.now) c.args.steps.now c.loop-leads.place c.loop-leads.leads c.in-Next.walk (c.loop-leads.invariant.0) c.in-Next.is
+pub keep-requires : goal.keep-requires
+keep-requires c = within (job_tree c.args.job.now) c.args.steps.now c.loop-leads.place (leads_of c.loop-leads.leads) c.loop-leads.invariant.0
 
 pub loop-leads-smaller : goal.loop-leads-smaller
-loop-leads-smaller c = falls_by (job_tree c.args.job.now) c.args.steps.now c.loop-leads.place c.loop-leads.leads c.in-Next.walk c.loop-leads.invariant.0 c.in-Next.is c.in_ok-do_next.field-0 c.in-Goes.next c.in-Goes.to c.in_ok-do_next.ensures c.in-Goes.is
+loop-leads-smaller c = falls_by (job_tree c.args.job.now) c.args.steps.now c.loop-leads.place c.loop-leads.leads c.in-Next.walk c.loop-leads.invariant.0 c.in-Next.is c.in_ok-next-in-Next.field-0 c.in-Goes.next c.in-Goes.to c.in_ok-next-in-Next.ensures c.in-Goes.is
 
 pub loop-leads-preserved : goal.loop-leads-preserved
 loop-leads-preserved c = (
-  goes_by (job_tree c.args.job.now) c.args.steps.now c.loop-leads.place c.loop-leads.leads c.in-Next.walk c.loop-leads.invariant.0 c.in-Next.is c.in_ok-do_next.field-0 c.in-Goes.next c.in-Goes.to c.in_ok-do_next.ensures c.in-Goes.is,
-  c.in_ok-keep.ensures,
+  goes_by (job_tree c.args.job.now) c.args.steps.now c.loop-leads.place c.loop-leads.leads c.in-Next.walk c.loop-leads.invariant.0 c.in-Next.is c.in_ok-next-in-Next.field-0 c.in-Goes.next c.in-Goes.to c.in_ok-next-in-Next.ensures c.in-Goes.is,
+  c.in_ok-left.ensures (job_tree c.args.job.now)
+      (here (job_tree c.args.job.now) c.args.steps.now c.loop-leads.place c.loop-leads.leads c.in-Next.walk c.loop-leads.invariant.0 c.in-Next.is)
+      c.loop-leads.invariant.1,
 )
 
 pub returns-in-Fails-clause-runs : goal.returns-in-Fails-clause-runs
 returns-in-Fails-clause-runs c =
     subst (RunsTo (job_tree c.args.job.now) c.args.steps.now) (sym c.failed.ensures.course)
-    (fails_by (job_tree c.args.job.now) c.args.steps.now c.loop-leads.place c.loop-leads.leads c.in-Next.walk c.loop-leads.invariant.0 c.in-Next.is c.in_ok-do_next.field-0 c.in-Fails.next c.in_ok-do_next.ensures c.in-Fails.is)
+    (fails_by (job_tree c.args.job.now) c.args.steps.now c.loop-leads.place c.loop-leads.leads c.in-Next.walk c.loop-leads.invariant.0 c.in-Next.is c.in_ok-next-in-Next.field-0 c.in-Fails.next c.in_ok-next-in-Next.ensures c.in-Fails.is)
 
 pub returns-in-Ends-clause-runs : goal.returns-in-Ends-clause-runs
 returns-in-Ends-clause-runs c =
