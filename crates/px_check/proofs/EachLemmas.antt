@@ -1,13 +1,15 @@
 -- Entries that are checked one after another.
-use Rattle.std.proofs.Common.{◌≡◌, ℕ, zero, suc, ◌+◌, ◌<◌, List, [], ◌∷◌, ◌++◌, length, get_or, drop, refl, sym, ◌∙◌, ap, subst, append_assoc, append-nil, arith}
+use Rattle.std.proofs.Common.{◌≡◌, ℕ, zero, suc, Ok, Err, ◌+◌, ◌<◌, List, [], ◌∷◌, ◌++◌, length, get_or, drop, refl, sym, ◌∙◌, ap, subst, append_assoc, append-nil, arith}
 use Rattle.std.proofs.lemmas.List.{drop_more}
 use Rattle.px_entry.specs.declared.derivations.Derivation.{Derivation}
 use Rattle.px_entry.specs.declared.derivations.Rule.{Rule}
+use Rattle.px_entry.specs.declared.derivations.Step.{Step}
 use Rattle.px_entry.specs.declared.entries.Entry.{Entry}
 use Rattle.px_callgraph.specs.JobTree.{JobTree}
 use Rattle.px_callgraph.specs.Derivations.{Derives, FailsFirst}
 use Rattle.px_check.specs.declared.checked.Checked.{Checked}
-use Rattle.px_check.specs.Answers.{entry_of, job_of, AreCheckedBy, IsFirstRefused}
+use Rattle.px_check.specs.declared.checked.CheckFault.TheVariants.{Refused}
+use Rattle.px_check.specs.Answers.{IsAnswer, AreCheckedBy, IsFirstRefused}
 
 -- What is checked so far, and the entries that are left, with their derivations from a place on: what is said of these is
 -- said of all.
@@ -33,23 +35,24 @@ module _ (j : JobTree) (entries : List Entry) (derivations : List Derivation) (a
     there : d ∷ drop (place + 1) derivations ≡ drop place derivations
     there = ap (λ z. z ∷ drop (place + 1) derivations) at ∙ sym (drop_more derivations place d in_bounds)
 
-    -- the next entry fails
-    pub fails_there : (i : ℕ) (r : Rule) → FailsFirst j x d.steps i r → IsFirstRefused j entries derivations place i r
-    fails_there i r h =
+    -- the next entry is refused
+    pub refused_there : (steps : List Step) (i : ℕ) (r : Rule) (y : Entry) → steps ≡ d.steps → IsAnswer j x steps (Err (Refused i r y)) → IsFirstRefused j entries derivations place i r
+    refused_there steps i r y own answer =
         let e : place + 0 ≡ place = omega arith in
+        let h : FailsFirst j x d.steps i r = subst (λ ss. FailsFirst j x ss i r) own answer.1 in
         subst (λ n. IsFirstRefused j entries derivations n i r) e
         (u.fails 0 i r (subst (λ ds. IsFirstRefused j left ds 0 i r) there (subst (λ z. IsFirstRefused j z (d ∷ drop (place + 1) derivations) 0 i r) (sym next) h)))
 
     -- or is checked
-    pub one_more : (c : Checked) (new : List Checked) (m : ℕ) → entry_of c ≡ x → job_of c ≡ j → Derives j x d.steps → new ≡ all ++ c ∷ [] → m ≡ place + 1 →
+    pub checked_there : (steps : List Step) (c : Checked) (new : List Checked) (m : ℕ) → steps ≡ d.steps → IsAnswer j x steps (Ok c) → new ≡ all ++ c ∷ [] → m ≡ place + 1 →
         IsUnderWay j entries derivations new rest m
-    one_more c new m entry job derives pushed e = subst (λ n. IsUnderWay j entries derivations new rest n) (sym e) (record {
+    checked_there steps c new m own answer pushed e = let derives : Derives j x d.steps = subst (Derives j x) own answer.2 in subst (λ n. IsUnderWay j entries derivations new rest n) (sym e) (record {
       even = let f : place + suc (length rest) ≡ length derivations = ap (λ z. place + length z) (sym next) ∙ u.even in omega (arith, f);
       checks = λ cs h.
           subst (AreCheckedBy j entries derivations) (sym (append_assoc all (c ∷ []) cs) ∙ ap (λ z. z ++ cs) (sym pushed))
           (u.checks (c ∷ cs)
           (subst (λ ds. AreCheckedBy j left ds (c ∷ cs)) there
-          (subst (λ z. AreCheckedBy j z (d ∷ drop (place + 1) derivations) (c ∷ cs)) (sym next) (entry, job, derives, h))));
+          (subst (λ z. AreCheckedBy j z (d ∷ drop (place + 1) derivations) (c ∷ cs)) (sym next) (answer.0, answer.1, derives, h))));
       fails = λ n i r h.
           let f : place + suc n ≡ place + 1 + n = omega arith in
           subst (λ m. IsFirstRefused j entries derivations m i r) f
