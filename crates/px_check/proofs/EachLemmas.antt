@@ -21,9 +21,9 @@ pub record IsUnderWay (j : JobTree) (entries : List Entry) (derivations : List D
 pub begins : (j : JobTree) (entries left : List Entry) (derivations : List Derivation) (all : List Checked) → length entries ≡ length derivations → left ≡ entries → all ≡ [] →
     IsUnderWay j entries derivations all left 0
 begins j entries left derivations all even same none = record {
-  even = ap length same ∙ even;
+  even = let z : 0 + length left ≡ length left = omega arith in z ∙ ap length same ∙ even;
   checks = λ cs h. subst (λ z. AreCheckedBy j entries derivations (z ++ cs)) (sym none) (subst (λ z. AreCheckedBy j z derivations cs) same h);
-  fails = λ n i r h. subst (λ z. IsFirstRefused j z derivations n i r) same h;
+  fails = λ n i r h. let z : n ≡ 0 + n = omega arith in subst (λ m. IsFirstRefused j entries derivations m i r) z (subst (λ z. IsFirstRefused j z derivations n i r) same h);
 }
 
 module _ (j : JobTree) (entries : List Entry) (derivations : List Derivation) (all : List Checked) (left rest : List Entry) (place : ℕ) (x : Entry) (next : left ≡ x ∷ rest)

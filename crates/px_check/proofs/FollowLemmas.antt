@@ -81,7 +81,7 @@ taken_more : (steps taken : List Step) (i k : ℕ) → AreBetween steps i k take
 taken_more steps taken i k (e, f) = ap (λ n. take n steps) f ∙ by i steps taken e
   where
     by : (i : ℕ) (xs taken : List Step) → drop i xs ≡ taken ++ drop k steps → take (i + length taken) xs ≡ take i xs ++ taken
-    by zero xs taken e = ap (take (length taken)) e ∙ take-append_seam taken (drop k steps)
+    by zero xs taken e = let z : 0 + length taken ≡ length taken = omega arith in ap (λ n. take n xs) z ∙ ap (take (length taken)) e ∙ take-append_seam taken (drop k steps)
     by (suc i) [] [] e = refl
     by (suc i) [] (st ∷ taken) e = cc
     by (suc i) (st ∷ xs) taken e = ap (λ z. st ∷ z) (by i xs taken e)

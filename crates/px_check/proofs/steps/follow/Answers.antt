@@ -20,7 +20,7 @@ loop-leads-smaller c = falls_by (job_tree c.args.job.now) c.args.steps.now c.loo
 pub loop-leads-preserved : goal.loop-leads-preserved
 loop-leads-preserved c = (
   goes_by (job_tree c.args.job.now) c.args.steps.now c.loop-leads.place c.loop-leads.leads c.in-Next.walk c.loop-leads.invariant.0 c.in-Next.is c.in_ok-next-in-Next.field-0 c.in-Goes.next c.in-Goes.to c.in_ok-next-in-Next.ensures c.in-Goes.is,
-  c.in_ok-left.ensures (job_tree c.args.job.now)
+  c.in_ok-left-in-Next.ensures (job_tree c.args.job.now)
       (here (job_tree c.args.job.now) c.args.steps.now c.loop-leads.place c.loop-leads.leads c.in-Next.walk c.loop-leads.invariant.0 c.in-Next.is)
       c.loop-leads.invariant.1,
 )
