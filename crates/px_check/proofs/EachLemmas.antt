@@ -8,8 +8,22 @@ use Rattle.px_entry.specs.declared.entries.Entry.{Entry}
 use Rattle.px_callgraph.specs.JobTree.{JobTree}
 use Rattle.px_callgraph.specs.Derivations.{Derives, FailsFirst}
 use Rattle.px_check.specs.declared.checked.Checked.{Checked}
-use Rattle.px_check.specs.declared.checked.CheckFault.TheVariants.{Refused}
-use Rattle.px_check.specs.Answers.{IsAnswer, AreCheckedBy, IsFirstRefused}
+use Rattle.px_check.specs.declared.checked.CheckFault.{CheckFault}
+use Rattle.px_check.specs.declared.checked.CheckFault.TheVariants.{Refused, NoMemory}
+use Rattle.px_check.specs.declared.checked.TableFault.{TableFault}
+use Rattle.px_check.specs.Answers.{IsAnswer, AreCheckedBy, IsFirstRefused, AreAnswers, fault_of}
+
+-- how many entries are left after the next
+pub left_len : {A : Type 0} (m n : ℕ) (old new : List A) (x : A) → n + 1 ≡ m → m ≡ length old → old ≡ x ∷ new → n ≡ length new
+left_len m n old new x one all next = let more : length old ≡ suc (length new) = ap length next in omega (arith, one, all, more)
+
+-- in the end none are
+pub none_left : {A : Type 0} (m : ℕ) (xs : List A) → m ≡ 0 → m ≡ length xs → xs ≡ []
+none_left m [] none all = refl
+none_left m (x ∷ xs) none all = absurd (some (length xs) none all)
+  where
+    some : (n : ℕ) → m ≡ 0 → m ≡ suc n → ⊥
+    some n none all = omega (arith, none, all)
 
 -- What is checked so far, and the entries that are left, with their derivations from a place on: what is said of these is
 -- said of all.
@@ -42,6 +56,11 @@ module _ (j : JobTree) (entries : List Entry) (derivations : List Derivation) (a
         let h : FailsFirst j x d.steps i r = subst (λ ss. FailsFirst j x ss i r) own answer.1 in
         subst (λ n. IsFirstRefused j entries derivations n i r) e
         (u.fails 0 i r (subst (λ ds. IsFirstRefused j left ds 0 i r) there (subst (λ z. IsFirstRefused j z (d ∷ drop (place + 1) derivations) 0 i r) (sym next) h)))
+
+    -- or there is no memory
+    pub stops_there : (steps : List Step) (f : CheckFault) (g : TableFault) → steps ≡ d.steps → IsAnswer j x steps (Err f) → g ≡ fault_of place f → AreAnswers j entries derivations (Err g)
+    stops_there steps (Refused i r y) g own answer e = subst (λ z. AreAnswers j entries derivations (Err z)) (sym e) (refused_there steps i r y own answer)
+    stops_there steps NoMemory g own answer e = subst (λ z. AreAnswers j entries derivations (Err z)) (sym e) tt
 
     -- or is checked
     pub checked_there : (steps : List Step) (c : Checked) (new : List Checked) (m : ℕ) → steps ≡ d.steps → IsAnswer j x steps (Ok c) → new ≡ all ++ c ∷ [] → m ≡ place + 1 →

@@ -82,9 +82,13 @@ taken_more steps taken i k (e, f) = ap (λ n. take n steps) f ∙ by i steps tak
   where
     by : (i : ℕ) (xs taken : List Step) → drop i xs ≡ taken ++ drop k steps → take (i + length taken) xs ≡ take i xs ++ taken
     by zero xs taken e = let z : 0 + length taken ≡ length taken = omega arith in ap (λ n. take n xs) z ∙ ap (take (length taken)) e ∙ take-append_seam taken (drop k steps)
-    by (suc i) [] [] e = refl
+    by (suc i) [] [] e = none (suc i + length {A = Step} [])
+      where
+        none : (n : ℕ) → take {A = Step} n [] ≡ []
+        none zero = refl
+        none (suc n) = refl
     by (suc i) [] (st ∷ taken) e = cc
-    by (suc i) (st ∷ xs) taken e = ap (λ z. st ∷ z) (by i xs taken e)
+    by (suc i) (st ∷ xs) taken e = let z : suc i + length taken ≡ suc (i + length taken) = omega arith in ap (λ n. take n (st ∷ xs)) z ∙ ap (λ z. st ∷ z) (by i xs taken e)
 
 module _ (j : JobTree) (steps : List Step) (i : ℕ) (a : Leads) (h : Follows j (take i steps) i a) where
   -- what is left of the course is the course

@@ -66,3 +66,8 @@ abbrev pub AreAnswers : JobTree → List Entry → List Derivation → Result (L
 AreAnswers j xs ds (Ok cs) = AreCheckedBy j xs ds cs
 AreAnswers j xs ds (Err (table.Refused n i r)) = IsFirstRefused j xs ds n i r
 AreAnswers j xs ds (Err table.NoMemory) = ⊤
+
+-- the fault of a table, of which the entry at this place has this one
+abbrev pub fault_of : ℕ → CheckFault → TableFault
+fault_of n (Refused i r x) = table.Refused n i r
+fault_of n NoMemory = table.NoMemory

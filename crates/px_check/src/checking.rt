@@ -3,7 +3,7 @@ ghost use Rattle.px_callgraph.specs.JobTree.{job_tree};
 ghost use Rattle.px_callgraph.specs.Derivations.{RunsTo};
 ghost use Rattle.px_check.specs.Follows.{IsForkOf};
 ghost use Rattle.px_check.specs.Courses.{course_of, place_of, IsSortedCourse};
-ghost use Rattle.px_check.specs.Answers.{IsAnswer, AreAnswers};
+ghost use Rattle.px_check.specs.Answers.{IsAnswer, AreAnswers, fault_of};
 
 use crate::ends::first_fault;
 use crate::forks::{Fork, take_fork};
@@ -77,6 +77,16 @@ pub fn check(
     check_next(alloc, job, entry, steps, &Plan::new(alloc), 0, &mut forks)
 }
 
+// Why a table isn't checked, of which the entry at this place is refused, or for which memory is lacking.
+fn fault_of(entry: usize, fault: CheckFault) -> TableFault
+    ensures { result ≡ fault_of entry fault }
+{
+    match fault {
+        CheckFault::Refused { step, rule, .. } => TableFault::Refused { entry, step, rule },
+        CheckFault::NoMemory => TableFault::NoMemory,
+    }
+}
+
 /// Checks that each derivation derives the entry beside it, as `check` does. What derivations that stand side by side have in
 /// common at first is followed once.
 pub fn check_each(
@@ -102,14 +112,7 @@ pub fn check_each(
                     return Err(TableFault::NoMemory);
                 };
             }
-            Err(CheckFault::Refused { step, rule, .. }) => {
-                return Err(TableFault::Refused {
-                    entry: place,
-                    step,
-                    rule,
-                });
-            }
-            Err(CheckFault::NoMemory) => return Err(TableFault::NoMemory),
+            Err(fault) => return Err(fault_of(place, fault)),
         }
         place += 1;
     }

@@ -1,4 +1,7 @@
 use Rattle.px_callgraph.specs.JobTree.{job_tree}
+use Rattle.std.specs.Prelude.{All}
+use Rattle.px_check.specs.Follows.{IsForkOf}
+use Rattle.px_check.proofs.ForkLemmas.{on_ok}
 use Rattle.px_check.proofs.forks.take_fork.Goals as goal
 
 pub returns-clause-fork : goal.returns-clause-fork
@@ -8,3 +11,8 @@ pub returns-clause-forks : goal.returns-clause-forks
 returns-clause-forks c =
     let j = job_tree c.args.job.now in
     c.in_ok-put_copy.ensures j (c.in-Some.ensures.fork j c.requires.forks).0 (c.in-Some.ensures.forks j c.requires.forks)
+
+pub returns-in_default-clause-forks : goal.returns-in_default-clause-forks
+returns-in_default-clause-forks c =
+    let j = job_tree c.args.job.now in
+    on_ok c.first_fork.result (All (IsForkOf j) c.last_shared.new.forks.items) (c.last_shared.ensures.forks j c.requires.forks)
