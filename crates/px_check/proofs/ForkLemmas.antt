@@ -1,6 +1,6 @@
 -- Forks, and the steps that lists have in common at first.
 use Rattle.std.proofs.Common.{◌≡◌, ◌↔◌, Bool, true, false, None, ℕ, zero, suc, ◌+◌, ◌<◌, ◌≤◌, List, [], ◌∷◌, ◌++◌, length, get_or, take, Some, slice_get, refl, sym, ◌∙◌, ap, subst, arith}
-use Rattle.std.specs.Prelude.{All, Result, Ok, Err, OnOk}
+use Rattle.std.specs.Prelude.{All}
 use Rattle.std.proofs.lemmas.List.{take_all}
 use Rattle.std.proofs.lemmas.List.Elements.{All-push}
 use Rattle.px_entry.specs.declared.derivations.Step.{Step}
@@ -38,11 +38,6 @@ pub at_none : (steps : List Step) (i : ℕ) (y : Step) → slice_get steps i ≡
 at_none steps i y there = (λ e. cc, λ h. let f : None ≡ Some y = sym there ∙ h in cc)
 
 -- ---- forks
-
--- what holds anyway holds where a call succeeds
-pub on_ok : {A E : Type 0} (r : Result A E) (P : Type 0) → P → OnOk r P
-on_ok (Ok a) P p = p
-on_ok (Err e) P p = tt
 
 -- one more is put upon them
 pub kept : (j : JobTree) (old new : List Fork) (f : Fork) (w : Walk) → new ≡ old ++ f ∷ [] → walk_of f.walk ≡ w → Follows j f.taken.now f.place (Next w) → All (IsForkOf j) old →

@@ -22,6 +22,7 @@ use Rattle.px_walks.specs.Nexts.{items_from, IsNext}
 use Rattle.px_walks.specs.Walks.{leads_of}
 use Rattle.px_callgraph.specs.declared.outcomes.StepOutcome.{StepOutcome}
 use Rattle.px_walks.specs.declared.walk.Walk.{Walk as WalkOf}
+use Rattle.px_match.proofs.PathLimitLemmas as limits
 use Rattle.px_check.specs.Steps.{is_call, named_way, take_named, is_call_rule, is_step_that, is_end}
 use Rattle.px_check.specs.declared.turns.Turn.{Turn}
 use Rattle.px_check.specs.declared.turns.Turn.TheVariants.{Goes, Fails}
@@ -44,12 +45,9 @@ gone (y ∷ ys) (suc i) e = gone ys i e
 
 -- ---- what takes no step
 
-same_place : (i : ℕ) → i ≡ i + 0
-same_place i = omega arith
-
 module _ (j : JobTree) (i : ℕ) (steps : List Step) (w : Walk) (silent : is_silent w.control ≡ true) where
   pub silent_goes : (a : StepOutcome WalkOf) → Some (leads_of a) ≡ take_listed j w way.On → TakesTurn j steps w i (Goes i a)
-  silent_goes a e = ([], (refl, same_place i), (silent, sym e))
+  silent_goes a e = ([], (refl, limits.none i), (silent, sym e))
 
   pub silent_fails : None ≡ take_listed j w way.On → TakesTurn j steps w i (Fails i)
   silent_fails e = (
@@ -183,7 +181,7 @@ not_used_there steps i n r h go a = by (drop i steps) h
     by (st ∷ rest) h = ap (λ b. elim b as (λ _. Course) [ true ↦ go (suc i) rest a | false ↦ fails_at i st.rule ]) h
 
 pub none_owed : (steps : List Step) (i n : ℕ) → IsBehindUse steps i n None (Some i)
-none_owed steps i n = ([], (refl, same_place i), tt)
+none_owed steps i n = ([], (refl, limits.none i), tt)
 
 at_end_is : (i : ℕ) (s : State) (exit : Exit) (r : Option Content) (st : Step) (rest : List Step) → is_end st ≡ true → comes_to i s exit r rest ≡ at_end i s exit r (st ∷ rest)
 at_end_is i s exit r st rest h =

@@ -1,7 +1,5 @@
 use Rattle.px_callgraph.specs.JobTree.{job_tree}
-use Rattle.std.specs.Prelude.{All}
-use Rattle.px_check.specs.Follows.{IsForkOf}
-use Rattle.px_check.proofs.ForkLemmas.{on_ok}
+use Rattle.px_walks.proofs.ResultLemmas.{ok_any}
 use Rattle.px_check.proofs.forks.take_fork.Goals as goal
 
 pub returns-clause-fork : goal.returns-clause-fork
@@ -15,4 +13,4 @@ returns-clause-forks c =
 pub returns-in_default-clause-forks : goal.returns-in_default-clause-forks
 returns-in_default-clause-forks c =
     let j = job_tree c.args.job.now in
-    on_ok c.first_fork.result (All (IsForkOf j) c.last_shared.new.forks.items) (c.last_shared.ensures.forks j c.requires.forks)
+    ok_any c.first_fork.result (c.last_shared.ensures.forks j c.requires.forks)
