@@ -3,3 +3,4 @@ pub mod Jumps
 pub mod StartLemmas
 pub mod LedFacts
 pub mod NextLemmas
+pub mod ResultLemmas
