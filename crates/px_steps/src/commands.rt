@@ -31,13 +31,13 @@ pub fn command_act(
 ) -> Result<StepOutcome<State>, NoMemory>
     ensures { IfOk result (λ r. r ≡ led_of state (spec.command_done (job_tree job.now) (command_tree command.now) way state)) }
 {
-    let led = act_at(alloc, job, &mut state, command, way)?;
+    let led = command_act_in(alloc, job, &mut state, command, way)?;
     Ok(led.with_state(state))
 }
 
-// The same where the state is changed in its place. After `NoMemory` it may be part of the way.
+/// The same where the state is changed in its place. After `NoMemory` it may be part of the way.
 #[tactic(auto, using(px_core::proofs::CommandEquations::trees))]
-fn act_at(
+pub fn command_act_in(
     alloc: Global,
     job: &Job,
     state: &mut State,

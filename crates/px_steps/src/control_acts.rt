@@ -122,32 +122,26 @@ pub fn iteration_act(
     unroll: u32,
     site: Site,
     made: u32,
-    state: State,
+    mut state: State,
 ) -> Result<StepOutcome<State>, NoMemory>
     ensures { IfOk result (λ r. r ≡ led_of state (commands.iteration unroll site made state)) }
 {
     if made < unroll {
-        turn(alloc, site, made + 1, state)
+        let led = iteration_act_in(alloc, site, made + 1, &mut state)?;
+        Ok(led.with_state(state))
     } else {
         Ok(StepOutcome::Past(state))
     }
 }
 
-// The same beside the state.
-fn turn(
+/// The body of the innermost loop is begun once more, so often now, whatever the bound. The state is changed in its place:
+/// after `NoMemory` it may be part of the way.
+pub fn iteration_act_in(
     alloc: Global,
     site: Site,
     made: u32,
-    mut state: State,
-) -> Result<StepOutcome<State>, NoMemory>
-    ensures { IfOk result (λ r. r ≡ led_of state (on (commands.repeat_loop site made (marked kind.Iter site state)))) }
-{
-    let led = turn_at(alloc, site, made, &mut state)?;
-    Ok(led.with_state(state))
-}
-
-// The body is begun once more, so often now.
-fn turn_at(alloc: Global, site: Site, made: u32, state: &mut State) -> Result<Led, NoMemory>
+    state: &mut State,
+) -> Result<Led, NoMemory>
     ensures { IfOk result (λ r. at_state r state.new ≡ led_of state.old (on (commands.repeat_loop site made (marked kind.Iter site state.old)))) }
 {
     match limit_passed(

@@ -10,7 +10,7 @@ use std::alloc::Global;
 
 /// Where an act leads that changes a state in its place.
 #[derive(Drop)]
-pub(crate) enum Led {
+pub enum Led {
     /// The path goes on.
     Goes,
     /// The procedure ends, with this result.
@@ -24,7 +24,7 @@ impl Led {
     ghost use Rattle.px_steps.specs.Led.{at_state};
 
     /// The same beside the state that is left.
-    pub(crate) fn with_state(self, state: State) -> StepOutcome<State>
+    pub fn with_state(self, state: State) -> StepOutcome<State>
         ensures { result ≡ at_state self state }
     {
         match self {

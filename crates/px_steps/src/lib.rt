@@ -21,6 +21,7 @@ mod return_acts;
 mod test_acts;
 mod words;
 
-pub use commands::command_act;
-pub use control_acts::iteration_act;
+pub use commands::{command_act, command_act_in};
+pub use control_acts::{iteration_act, iteration_act_in};
 pub use copies::copy_state;
+pub use led::Led;

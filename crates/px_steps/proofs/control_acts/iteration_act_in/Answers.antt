@@ -3,7 +3,7 @@ use Rattle.px_base.specs.declared.trace.MarkKind.TheVariants as kind
 use Rattle.px_callgraph.specs.States.{marked}
 use Rattle.px_callgraph.specs.Commands.{repeat_loop}
 use Rattle.px_steps.proofs.PathLimitLemmas.{next_led, cut_led, turning, turned_grows}
-use Rattle.px_steps.proofs.control_acts.turn_at.Goals as goal
+use Rattle.px_steps.proofs.control_acts.iteration_act_in.Goals as goal
 
 pub returns-in-Some : goal.returns-in-Some
 returns-in-Some c =
