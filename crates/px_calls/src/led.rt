@@ -28,7 +28,7 @@ impl<'a> CallLed<'a> {
 
     /// The same beside the state that is left.
     pub(crate) fn with_state(self, state: State) -> StepOutcome<CallProgress<'a>>
-        ensures { result ≡ progress_at self state }
+        ensures { result ≡ progress_at self.entry state }
     {
         match self {
             CallLed::Goes(call) => StepOutcome::Next(CallProgress { state, call }),
