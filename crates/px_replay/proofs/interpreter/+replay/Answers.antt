@@ -1,14 +1,14 @@
 use Rattle.std.proofs.Common.{◌≡◌, ◌∙◌, List, [], ◌∷◌, ◌++◌, append-nil, refl, ap, map, drop, sym, subst, Ok, Err, Vec, Global, ap₂, true, false, Bool, ◌-◌, ◌<◌, arith, get_or, rules, ◌+◌, option_map}
 use Rattle.std.proofs.lemmas.Result.{err_from_is_err_and}
 use Rattle.px_meaning.specs.Values.{Value, Unwritten}
-use Rattle.px_syntax.specs.TypedTree.{expressions_of, arguments_of, no_arguments, an_argument, no_expressions, an_expression, stop, evaluate, statements_of, Statement, run_call, free, choose, arithmetic, cell, call, compare, both, either, negated, truth, word, pointer, opposite, block, assign, update, loop}
+use Rattle.px_syntax.specs.TypedTree.{expressions_of, arguments_of, no_arguments, an_argument, no_expressions, an_expression, stop, evaluate, statements_of, Statement, run_call, free, access, choose, arithmetic, cell, call, compare, both, either, negated, truth, word, pointer, opposite, block, assign, update, loop}
 use Rattle.px_syntax.specs.TypedViews.{typed_expression, typed_argument, typed_statement, typed_condition, typed_place, arithmetic_link, relation_link, calculated, compared, cells, all_of, any_of}
 use Rattle.px_replay.specs.declared.flow.Flow.{Flow}
 use Rattle.px_replay.specs.Script.{plain_script, UnlessMemory, and_then, answers}
 use Rattle.px_replay.specs.Interpreted.{types_in, calls_of, given, given_these, ended}
 use Rattle.px_replay.specs.Locals.{locals_map}
 use Rattle.px_replay.specs.ChainReplay.{onto, chained, loads_link, calculates_link, compares_link, and_link, or_link}
-use Rattle.px_replay.specs.TreeReplay.{ReplaysAll, PassesAll, reaches, ReplaysStatements, ReplaysStatement, Checks, assigns, updates, CallsReplay, returned, Replays, on_fall, loops, checks_if, on_turn}
+use Rattle.px_replay.specs.TreeReplay.{ReplaysAll, PassesAll, reaches, ReplaysStatements, ReplaysStatement, Checks, assigns, updates, CallsReplay, returned, Replays, on_fall, loops, checks_if, on_turn, accesses}
 use Rattle.px_replay.proofs.ActLemmas.{ended_by, ended_surely, surely, unless}
 use Rattle.px_replay.proofs.ListLemmas.{passed_stops, passed_goes, erased_done, arguments_more, arguments_stop, arguments_end, onto_none, statements_more, statements_stop, statements_end, ends_list}
 use Rattle.std.specs.Prelude.{⊤}
@@ -756,6 +756,37 @@ statement-give_back-requires t c = let h = ap statement_size (ap typed_statement
 
 pub declaration-expression-requires : goal.declaration-expression-requires
 declaration-expression-requires t c = let h = ap (λ o. value_size (option_map (λ b. typed_expression b.value) o)) c.in-Some.is ∙ sym (ap (λ e. size_of (typed_expression e)) c.deref.ensures) in (falls c.args.callees.now _ _ t c.decreases (omega (arith, h)), tt)
+
+pub access-returns-in_err-effects : goal.access-returns-in_err-effects
+access-returns-in_err-effects t c =
+    let types = types_in c.args.callees.now in let calls = calls_of c.args.callees.now in let l0 = locals_map c.args.locals.now in let s0 = plain_script c.args.script.now in let p = typed_expression c.args.pointer.now in let ps = expressions_of (map typed_expression c.args.parts.now) in let l = c.args.cell in
+    let s1 = plain_script c.expression.new.script in let s2 = plain_script c.effects.new.script in let d = c.in_err-effects.field-0.0 in
+    ended_by ⊤ Flow (λ s r s'. accesses types calls p ps l.block l.site l0 s (ended r l0) s') s0 s2 c.from_residual-in_err-effects.result d (err_from_is_err_and c.from_residual-in_err-effects.result c.from_residual-in_err-effects.ensures.1)
+    (λ h. (Ok c.in_ok-at.at, s1, c.in_ok-at.ensures, (Err d, s2, h, (refl, refl)))) c.in_err-effects.ensures
+
+pub access-returns-in_err-reach : goal.access-returns-in_err-reach
+access-returns-in_err-reach t c =
+    let types = types_in c.args.callees.now in let calls = calls_of c.args.callees.now in let l0 = locals_map c.args.locals.now in let s0 = plain_script c.args.script.now in let p = typed_expression c.args.pointer.now in let ps = expressions_of (map typed_expression c.args.parts.now) in let l = c.args.cell in
+    let s1 = plain_script c.expression.new.script in let s2 = plain_script c.effects.new.script in let s3 = plain_script c.reach.new.script in let d = c.in_err-reach.field-0.0 in
+    ended_surely (λ s r s'. accesses types calls p ps l.block l.site l0 s (ended r l0) s') s0 s3 c.from_residual-in_err-reach.result d (err_from_is_err_and c.from_residual-in_err-reach.result c.from_residual-in_err-reach.ensures.1)
+    (Ok c.in_ok-at.at, s1, c.in_ok-at.ensures, (Ok tt, s2, c.in_ok-effects.ensures, (Err d, s3, c.in_err-reach.ensures, (refl, refl))))
+
+pub access-returns-in_ok-reach : goal.access-returns-in_ok-reach
+access-returns-in_ok-reach t c =
+    let s1 = plain_script c.expression.new.script in let s2 = plain_script c.effects.new.script in let s3 = plain_script c.reach.new.script in
+    (Ok c.in_ok-at.at, s1, c.in_ok-at.ensures, (Ok tt, s2, c.in_ok-effects.ensures, (Ok tt, s3, c.in_ok-reach.ensures, (refl, refl))))
+
+pub access-expression-requires : goal.access-expression-requires
+access-expression-requires t c = (falls c.args.callees.now _ _ t c.decreases (omega (arith)), tt)
+
+pub access-effects-requires : goal.access-effects-requires
+access-effects-requires t c = (falls c.args.callees.now _ _ t c.decreases (omega (arith)), tt)
+
+pub statement-access-requires : goal.statement-access-requires
+statement-access-requires t c =
+    let l = c.in-Access.cell in
+    let h = ap statement_size (ap typed_statement c.in-Access.is ∙ sym (ap₂ (λ e es. access (typed_expression e) (expressions_of (map typed_expression es)) l.field l.block l.site) c.deref-in-Access.ensures c.deref-in-Access-2.ensures.value)) in
+    (falls c.args.callees.now _ _ t c.decreases (omega (arith, h)), tt)
 
 pub give_back-expression-requires : goal.give_back-expression-requires
 give_back-expression-requires t c = let h = ap (λ o. value_size (option_map (λ b. typed_expression b.value) o)) c.in-Some.is ∙ sym (ap (λ e. size_of (typed_expression e)) c.deref.ensures) in (falls c.args.callees.now _ _ t c.decreases (omega (arith, h)), tt)
