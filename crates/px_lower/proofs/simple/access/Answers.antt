@@ -1,4 +1,4 @@
-use Rattle.std.proofs.Common.{◌∙◌, ◌++◌, ◌∷◌, [], map, ap, ap₂, sym}
+use Rattle.std.proofs.Common.{◌∙◌, suc, ◌++◌, ◌∷◌, [], map, ap, ap₂}
 use Rattle.std.proofs.lemmas.Result.{err_from_is_err_and}
 use Rattle.px_core.specs.CommandTree.{command_tree, load, unset}
 use Rattle.px_syntax.specs.TypedTree.{expressions_of}
@@ -24,4 +24,4 @@ pub returns : goal.returns
 returns c =
     let l = c.args.cell in
     accessed_returns (typed_expression c.args.pointer.now) (expressions_of (map typed_expression c.args.parts.now)) l c.args.next (map command_tree c.args.out.now.items) _ c.in_ok-x.x c.in_ok-x.ensures _ c.in_ok-behind.behind c.in_ok-cell_reached.field-0 _ c.in_ok-behind.ensures
-    (c.in_ok-cell_reached.ensures.commands ∙ ap₂ (λ o m. map command_tree c.effects.new.out.items ++ load m o l.field l.block l.site ∷ unset m ∷ []) c.new.ensures.operand c.new.ensures.next) (c.in_ok-cell_reached.ensures.next ∙ ap (λ m. m + 1) c.new.ensures.next)
+    (c.in_ok-cell_reached.ensures.commands ∙ ap₂ (λ o m. map command_tree c.effects.new.out.items ++ load m o l.field l.block l.site ∷ unset m ∷ []) c.new-at.ensures.operand c.new-at.ensures.next) (c.in_ok-cell_reached.ensures.next ∙ ap suc c.new-at.ensures.next)
