@@ -124,7 +124,7 @@ abbrev mutual
   typed_statement S.Continue = continue
   typed_statement (S.Return value) = return (option_map (λ b. typed_expression b.value) value)
   typed_statement (S.Evaluate value) = evaluate (typed_expression value.value)
-  typed_statement (S.Access pointer parts at) = access (typed_expression pointer.value) (expressions_of (map typed_expression parts.items)) at.field at.block at.site
+  typed_statement (S.Access p parts l) = access (typed_expression p.value) (expressions_of (map typed_expression parts.items)) l.field l.block l.site
 
   -- the statements of a row
   pub typed_rows : {m : _} → Row_of-TypedStatement m → Statements
