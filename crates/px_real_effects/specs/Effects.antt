@@ -5,7 +5,7 @@ use Rattle.px_terms.specs.declared.types.TypeId.{TypeId}
 use Rattle.px_syntax.specs.declared.typed_expression.Arithmetic.{Arithmetic}
 use Rattle.px_syntax.specs.declared.typed_expression.Arithmetic.TheVariants as A
 use Rattle.px_syntax.specs.TypedTree as T
-use Rattle.px_syntax.specs.TypedTree.{Expression, Place, Statement}
+use Rattle.px_syntax.specs.TypedTree.{Expression, Argument, Place, Statement}
 use Rattle.px_real_expressions.specs.declared.operators.Prefix.TheVariants as P
 use Rattle.px_real_expressions.specs.declared.operators.Operator.{Operator}
 use Rattle.px_real_expressions.specs.declared.operators.Operator.TheVariants as O
@@ -18,7 +18,7 @@ use Rattle.px_real_values.specs.Types.{int, is_int}
 use Rattle.px_real_values.specs.Environment.{Environment, Signature, function, library, type_id}
 use Rattle.px_real_values.specs.Operands.{Operand, a_name, stop, first_cell, parts, needed, freed}
 use Rattle.px_real_values.specs.Operators.{assignment_text, step_text}
-use Rattle.px_real_values.specs.Calls.{Given, Evaluated, are_silent, fits, arguments, all_parts, call_of}
+use Rattle.px_real_values.specs.Calls.{Given, fits, arguments, all_parts, call_of}
 use Rattle.px_real_values.specs.Values.{first_site, valued, given, block_of}
 use Rattle.px_real_effects.specs.Targets.{Target, a_place, an_access, away, nowhere, pointer_of, target}
 
@@ -71,8 +71,8 @@ module _ (env : Environment) where
 
   -- ---- calls whose value isn't read
 
-  abbrev pub ran : Signature → Site → Evaluated → List Statement
-  ran s at xs = if xs.all_passed then T.run_call s.proc (T.expressions_of xs.all) at ∷ [] else T.evaluate (stop xs.all (env.word_number (codes "call")) at) ∷ []
+  abbrev pub ran : Signature → Site → List Argument → List Statement
+  ran s at xs = T.run_call s.proc (T.arguments_of xs) at ∷ []
 
   abbrev pub freeing : Site → List Given → List Statement
   freeing at (x ∷ []) = T.free ((freed env x.first x.operand).1) (type_id env ((freed env x.first x.operand).0)) at ∷ []
