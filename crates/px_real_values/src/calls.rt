@@ -311,7 +311,9 @@ pub fn call_of<'a, E: Environment>(
 {
     match function {
         Operand::Named {
-            callee, site: at, ..
+            callee,
+            site: at,
+            ..
         } => name_call(alloc, environment, callee, at, block, given),
         other => {
             let parts = other.parts(alloc, environment)?;

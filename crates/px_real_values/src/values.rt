@@ -1,4 +1,5 @@
-ghost use Rattle.std.specs.Prelude.{◌≡◌, ◌++◌, List, [], map, codes, IfOk};
+ghost use Rattle.std.specs.Prelude.{◌≡◌, ◌++◌, List, [], map, codes, None, IfOk};
+ghost use Rattle.px_expressions.specs.Reading.{or_else};
 ghost use Rattle.px_expressions.specs.Terminals.{is_in};
 ghost use Rattle.px_real_expressions.specs.Lexemes.{Lexeme};
 ghost use Rattle.px_real_symbols.specs.Symbols.{held_in};
@@ -84,6 +85,16 @@ fn block_of_type<E: Environment>(environment: &E, known: Known) -> Option<Profil
             }
         }
         None => Some(block),
+    }
+}
+
+// The same of what may be no size.
+fn block_if<E: Environment>(environment: &E, known: Option<Known>) -> Option<ProfileType>
+    ensures { result ≡ or_else known (Rules.block_of_type (E.sees environment.now)) None }
+{
+    match known {
+        Some(known) => block_of_type(environment, known),
+        None => None,
     }
 }
 
@@ -278,13 +289,8 @@ pub fn evaluate<'a, E: Environment>(
             *site,
             Vec::new(alloc),
         )),
-        Expression::Measure { measure, site, .. }
-        | Expression::MeasureType { measure, site, .. } => Ok(outside_of(
-            environment,
-            measure_text(*measure),
-            *site,
-            Vec::new(alloc),
-        )),
+        Expression::Measure { measure, site, .. } | Expression::MeasureType { measure, site, .. } =>
+            Ok(outside_of(environment, measure_text(*measure), *site, Vec::new(alloc))),
         Expression::Cast {
             site,
             type_name,
@@ -305,10 +311,14 @@ pub fn evaluate<'a, E: Environment>(
             linked(alloc, environment, *operator, *site, right, left)
         }
         Expression::Choice {
-            site, condition, ..
+            site,
+            condition,
+            ..
         }
         | Expression::ChoiceOr {
-            site, condition, ..
+            site,
+            condition,
+            ..
         } => {
             let condition = evaluate(alloc, environment, condition)?;
             chosen(alloc, environment, *site, condition)
@@ -321,12 +331,7 @@ pub fn evaluate<'a, E: Environment>(
         } => {
             let left = evaluate(alloc, environment, left)?;
             let parts = left.pointer_parts(alloc, environment)?;
-            Ok(stopped_at(
-                environment,
-                assignment_text(*operator),
-                *site,
-                parts,
-            ))
+            Ok(stopped_at(environment, assignment_text(*operator), *site, parts))
         }
     }
 }
@@ -495,21 +500,25 @@ fn measured<'a, E: Environment>(
     match expression {
         Expression::Parenthesised { inner, .. } => measured(alloc, environment, inner),
         Expression::Measure {
-            measure: Measure::Size,
+            measure,
             operand: inner,
             ..
-        } => {
-            let inner = evaluate(alloc, environment, inner)?;
-            Ok(Some(inner.known()))
-        }
+        } => match measure {
+            Measure::Size => {
+                let inner = evaluate(alloc, environment, inner)?;
+                Ok(Some(inner.known()))
+            }
+            Measure::Alignment => Ok(None),
+        },
         Expression::MeasureType {
-            measure: Measure::Size,
-            type_name,
-            ..
-        } => {
-            let spelled = environment.spelled(alloc, *type_name)?;
-            Ok(Some(Known::Seen(spelled.shape)))
-        }
+            measure, type_name, ..
+        } => match measure {
+            Measure::Size => {
+                let spelled = environment.spelled(alloc, *type_name)?;
+                Ok(Some(Known::Seen(spelled.shape)))
+            }
+            Measure::Alignment => Ok(None),
+        },
         _ => Ok(None),
     }
 }
@@ -523,12 +532,12 @@ fn block_of<'a, E: Environment>(
 ) -> Result<Option<ProfileType>, NoMemory>
     ensures { IfOk result (λ b. b ≡ Rules.block_of (E.sees environment.entry.now) (expressions_of (map (expression_tree (E.tokens environment.entry.now)) arguments.now))) }
 {
-    if arguments.len() != 1 {
-        return Ok(None);
-    }
-    match measured(alloc, environment, &arguments[0])? {
-        Some(known) => Ok(block_of_type(environment, known)),
-        None => Ok(None),
+    let count = arguments.len();
+    if count == 1 {
+        let known = measured(alloc, environment, &arguments[0])?;
+        Ok(block_if(environment, known))
+    } else {
+        Ok(None)
     }
 }
 

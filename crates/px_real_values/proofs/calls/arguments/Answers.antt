@@ -13,13 +13,14 @@ loop-one-preserved g c =
     let at = c.loop-one in
     let es = map typed_argument at.all.items in
     let steps : into_iter_items at.one-iterator ≡ c.in-Some.one ∷ into_iter_items c.next.new.self = c.in-Some.ensures.steps.0 in
-    let place : c.len-at.result ≡ length es = omega (arith, at.all.ok.0, length-map at.all.items typed_argument) in
-    (arguments_more env c.args.signature.parameters.now es (map typed_argument c.put_argument.new.all.items) _ c.len-at.result (given_seen c.in-Some.one) (map given_seen (into_iter_items at.one-iterator)) (map given_seen (into_iter_items c.next.new.self))
-    c.parameter-wanted.result (typed_argument c.in_ok-passed.passed) place (ap (map given_seen) steps) c.parameter-wanted.ensures c.in_ok-passed.ensures c.in_ok-put_argument.ensures at.invariant.0,
-    let was = at.invariant.1 in
-        let gone = c.in-Some.ensures.steps.1 in
-        let short = ap length steps in
-        omega arith)
+    let place : c.len-at.result ≡ length es = omega (arith, at.all.ok.0, length-map at.all.items typed_argument) in (
+      arguments_more env c.args.signature.parameters.now es (map typed_argument c.put_argument.new.all.items) _ c.len-at.result (given_seen c.in-Some.one) (map given_seen (into_iter_items at.one-iterator)) (map given_seen (into_iter_items c.next.new.self))
+          c.parameter-wanted.result (typed_argument c.in_ok-passed.passed) place (ap (map given_seen) steps) c.parameter-wanted.ensures c.in_ok-passed.ensures c.in_ok-put_argument.ensures at.invariant.0,
+      let was = at.invariant.1 in
+          let gone = c.in-Some.ensures.steps.1 in
+          let short = ap length steps in
+          omega arith,
+    )
 
 pub returns : goal.returns
 returns g c =

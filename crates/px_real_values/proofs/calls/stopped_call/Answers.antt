@@ -12,13 +12,14 @@ pub loop-one-preserved : goal.loop-one-preserved
 loop-one-preserved g c =
     let env = g.E.Environment.sees c.args.environment.now in
     let at = c.loop-one in
-    let steps : into_iter_items at.one-iterator ≡ c.in-Some.one ∷ into_iter_items c.next.new.self = c.in-Some.ensures.steps.0 in
-    (parts_more env (map typed_expression at.all.items) (map typed_expression c.in_ok-parts.parts.items) (map typed_expression c.put_all.new.all.items) _ (given_seen c.in-Some.one)
-    (map given_seen (into_iter_items at.one-iterator)) (map given_seen (into_iter_items c.next.new.self)) (ap (map given_seen) steps) c.in_ok-parts.ensures c.in_ok-put_all.ensures at.invariant.0,
-    let was = at.invariant.1 in
-        let gone = c.in-Some.ensures.steps.1 in
-        let short = ap length steps in
-        omega arith)
+    let steps : into_iter_items at.one-iterator ≡ c.in-Some.one ∷ into_iter_items c.next.new.self = c.in-Some.ensures.steps.0 in (
+      parts_more env (map typed_expression at.all.items) (map typed_expression c.in_ok-parts.parts.items) (map typed_expression c.put_all.new.all.items) _ (given_seen c.in-Some.one)
+          (map given_seen (into_iter_items at.one-iterator)) (map given_seen (into_iter_items c.next.new.self)) (ap (map given_seen) steps) c.in_ok-parts.ensures c.in_ok-put_all.ensures at.invariant.0,
+      let was = at.invariant.1 in
+          let gone = c.in-Some.ensures.steps.1 in
+          let short = ap length steps in
+          omega arith,
+    )
 
 pub returns : goal.returns
 returns g c =
