@@ -52,11 +52,7 @@ fn outside_alone<'a, E: Environment>(
 }
 
 // `malloc` of a block, where no pointer to it is wanted.
-fn unwanted_block<'a, E: Environment>(
-    alloc: Global,
-    environment: &E,
-    site: Site,
-) -> Operand<'a>
+fn unwanted_block<'a, E: Environment>(alloc: Global, environment: &E, site: Site) -> Operand<'a>
     ensures { operand_seen result ≡ Operands.stopped [] (Operands.malloc_word (E.sees environment.now)) site }
 {
     stopped_at(environment, b"malloc".as_slice(), site, Vec::new(alloc))

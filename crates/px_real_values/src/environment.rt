@@ -50,9 +50,14 @@ pub enum Callee<'a> {
 #[derive(Clone, Copy)]
 pub enum Meaning<'a> {
     /// A local of the profile.
-    Local { number: u32, kind: ProfileType },
+    Local {
+        number: u32,
+        kind: ProfileType,
+    },
     /// An enumerator, with its value where that is written as a constant or counted from one.
-    Enumerator { value: Option<u32> },
+    Enumerator {
+        value: Option<u32>,
+    },
     /// Any other name that is declared, with the number of the first word of its type that is no qualifier.
     Other {
         callee: Callee<'a>,

@@ -145,11 +145,7 @@ fn struct_behind(kind: ProfileType) -> Option<u32>
 }
 
 // The member of this name of a struct or union, if it is known which one that is.
-fn member_in<E: Environment>(
-    environment: &E,
-    name: &[u8],
-    known: Known,
-) -> Option<Option<Member>>
+fn member_in<E: Environment>(environment: &E, name: &[u8], known: Known) -> Option<Option<Member>>
     ensures { result ≡ Rules.member_in (E.sees environment.now) name.now known }
 {
     let number = record_in(known)?;
@@ -279,7 +275,9 @@ pub fn dotted<'a, E: Environment>(
     let field = name.as_slice();
     match operand {
         Operand::Struct {
-            number, pointer, ..
+            number,
+            pointer,
+            ..
         } => member_at(
             alloc,
             environment,

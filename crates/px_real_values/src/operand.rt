@@ -27,13 +27,23 @@ pub enum Operand<'a> {
         value: TypedExpression,
     },
     /// The constant 0: an int, and null of each pointer type.
-    Zero { site: Site },
+    Zero {
+        site: Site,
+    },
     /// Null where a pointer is wanted, and elsewhere outside.
-    Null { word: u32, site: Site },
+    Null {
+        word: u32,
+        site: Site,
+    },
     /// A comparison, `&&`, `||` or `!`: an int by its outcome.
-    Test { condition: Condition },
+    Test {
+        condition: Condition,
+    },
     /// `malloc` of a block of this type: a value where a pointer to it is wanted.
-    Block { block: ProfileType, site: Site },
+    Block {
+        block: ProfileType,
+        site: Site,
+    },
     /// Outside: a name that is no local of the profile, with what a call of it goes to.
     Named {
         callee: Callee<'a>,
@@ -87,10 +97,7 @@ pub enum Turn<'a> {
 }
 
 // A list of one expression.
-pub fn alone(
-    alloc: Global,
-    expression: TypedExpression,
-) -> Result<Vec<TypedExpression>, NoMemory>
+pub fn alone(alloc: Global, expression: TypedExpression) -> Result<Vec<TypedExpression>, NoMemory>
     ensures { IfOk result (λ v. map typed_expression v.items ≡ typed_expression expression ∷ []) }
 {
     let mut all = Vec::new(alloc);
@@ -99,10 +106,7 @@ pub fn alone(
 }
 
 // One more expression.
-pub fn put(
-    all: &mut Vec<TypedExpression>,
-    expression: TypedExpression,
-) -> Result<(), NoMemory>
+pub fn put(all: &mut Vec<TypedExpression>, expression: TypedExpression) -> Result<(), NoMemory>
     ensures { OnOk result (map typed_expression all.new.items ≡ map typed_expression all.old.items ++ typed_expression expression ∷ []) }
 {
     all.push(expression)?;
@@ -110,10 +114,7 @@ pub fn put(
 }
 
 // More expressions.
-pub fn put_all(
-    all: &mut Vec<TypedExpression>,
-    more: Vec<TypedExpression>,
-) -> Result<(), NoMemory>
+pub fn put_all(all: &mut Vec<TypedExpression>, more: Vec<TypedExpression>) -> Result<(), NoMemory>
     ensures { OnOk result (map typed_expression all.new.items ≡ map typed_expression all.old.items ++ map typed_expression more.items) }
 {
     let mut more = more;
@@ -212,10 +213,7 @@ pub fn reached(
 }
 
 // The last of the cells after a pointer, or the pointer where there is none.
-pub fn last_cell(
-    pointer: Box<TypedExpression>,
-    mut before: Vec<CellLink>,
-) -> TypedExpression
+pub fn last_cell(pointer: Box<TypedExpression>, mut before: Vec<CellLink>) -> TypedExpression
     ensures { typed_expression result ≡ cells (typed_expression pointer.value) before.items }
 {
     match before.pop() {
@@ -231,16 +229,15 @@ pub fn last_cell(
 }
 
 // The pointer to what an expression has the value of.
-fn pointer_in(
-    alloc: Global,
-    value: TypedExpression,
-) -> Result<Vec<TypedExpression>, NoMemory>
+fn pointer_in(alloc: Global, value: TypedExpression) -> Result<Vec<TypedExpression>, NoMemory>
     ensures { IfOk result (λ v. map typed_expression v.items ≡ Rules.pointer_in (typed_expression value)) }
 {
     match value {
         TypedExpression::Local { .. } => Ok(Vec::new(alloc)),
         TypedExpression::Cell {
-            pointer, before, ..
+            pointer,
+            before,
+            ..
         } => alone(alloc, last_cell(pointer, before)),
         other => alone(alloc, other),
     }
@@ -279,7 +276,10 @@ impl<'a> Operand<'a> {
                 site,
             })),
             Operand::Object {
-                parts, word, site, ..
+                parts,
+                word,
+                site,
+                ..
             }
             | Operand::Stopped { parts, word, site } => {
                 Ok(Turn::Stops(Operand::Stopped { parts, word, site }))
@@ -324,7 +324,10 @@ impl<'a> Operand<'a> {
                 alone(alloc, stop(parts, word, site))
             }
             Operand::Object {
-                parts, word, site, ..
+                parts,
+                word,
+                site,
+                ..
             }
             | Operand::Stopped { parts, word, site } => alone(alloc, stop(parts, word, site)),
         }
@@ -410,10 +413,16 @@ impl<'a> Operand<'a> {
                 ..
             } => Ok(stop(alone(alloc, pointer)?, word, site)),
             Operand::Outside {
-                parts, word, site, ..
+                parts,
+                word,
+                site,
+                ..
             }
             | Operand::Object {
-                parts, word, site, ..
+                parts,
+                word,
+                site,
+                ..
             }
             | Operand::Stopped { parts, word, site } => Ok(stop(parts, word, site)),
         }
@@ -506,10 +515,16 @@ impl<'a> Operand<'a> {
                 ..
             } => tested(alloc, false, stop(alone(alloc, pointer)?, word, site), site),
             Operand::Outside {
-                parts, word, site, ..
+                parts,
+                word,
+                site,
+                ..
             }
             | Operand::Object {
-                parts, word, site, ..
+                parts,
+                word,
+                site,
+                ..
             }
             | Operand::Stopped { parts, word, site } => {
                 tested(alloc, false, stop(parts, word, site), site)

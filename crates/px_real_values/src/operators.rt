@@ -226,7 +226,14 @@ fn equated<'a, E: Environment>(
     let kind = common_type(&left, &right);
     let relation = relation_at(kind, of_ints, of_places);
     compared(
-        alloc, environment, kind, relation, operator, site, left, right,
+        alloc,
+        environment,
+        kind,
+        relation,
+        operator,
+        site,
+        left,
+        right,
     )
 }
 
@@ -234,11 +241,7 @@ fn equated<'a, E: Environment>(
 fn relation_at(kind: ProfileType, of_ints: Relation, of_places: Relation) -> Relation
     ensures { result ≡ (if Types.is_pointer kind then of_places else of_ints) }
 {
-    if is_pointer(kind) {
-        of_places
-    } else {
-        of_ints
-    }
+    if is_pointer(kind) { of_places } else { of_ints }
 }
 
 // `&&`.
@@ -283,12 +286,7 @@ fn outside_both<'a, E: Environment>(
     ensures { IfOk result (λ a. operand_seen a ≡ Rules.outside_of (E.sees environment.now) (Rules.operator_text operator) site (Operands.parts (E.sees environment.now) (operand_seen left.entry) ++ Operands.parts (E.sees environment.now) (operand_seen right.entry))) }
 {
     let parts = both_parts(alloc, environment, left, right)?;
-    Ok(outside_of(
-        environment,
-        operator_text(operator),
-        site,
-        parts,
-    ))
+    Ok(outside_of(environment, operator_text(operator), site, parts))
 }
 
 // An operator that the profile doesn't have, which is a `Stop`.
@@ -303,12 +301,7 @@ fn stopped_both<'a, E: Environment>(
     ensures { IfOk result (λ a. operand_seen a ≡ Rules.stopped_at (E.sees environment.now) (Rules.operator_text operator) site (Operands.parts (E.sees environment.now) (operand_seen left.entry) ++ Operands.parts (E.sees environment.now) (operand_seen right.entry))) }
 {
     let parts = both_parts(alloc, environment, left, right)?;
-    Ok(stopped_at(
-        environment,
-        operator_text(operator),
-        site,
-        parts,
-    ))
+    Ok(stopped_at(environment, operator_text(operator), site, parts))
 }
 
 // An operator between operands, of which the first is no `Stop`.
@@ -323,25 +316,133 @@ pub fn binary<'a, E: Environment>(
     ensures { IfOk result (λ a. operand_seen a ≡ Rules.valued_binary (E.sees environment.now) operator site (operand_seen left.entry) (operand_seen right.entry)) }
 {
     match operator {
-        Operator::Multiply => computed(alloc, environment, Arithmetic::Multiply, operator, site, left, right),
-        Operator::Add => computed(alloc, environment, Arithmetic::Add, operator, site, left, right),
-        Operator::Subtract => computed(alloc, environment, Arithmetic::Subtract, operator, site, left, right),
-        Operator::Divide => divided(alloc, environment, Arithmetic::Divide { site }, operator, site, left, right),
-        Operator::Remainder => divided(alloc, environment, Arithmetic::Remainder { site }, operator, site, left, right),
-        Operator::Less => compared(alloc, environment, int(), Relation::Less, operator, site, left, right),
-        Operator::Greater => compared(alloc, environment, int(), Relation::Greater, operator, site, left, right),
-        Operator::LessEqual => compared(alloc, environment, int(), Relation::AtMost, operator, site, left, right),
-        Operator::GreaterEqual => compared(alloc, environment, int(), Relation::AtLeast, operator, site, left, right),
-        Operator::Equal => equated(alloc, environment, Relation::Equal, Relation::SamePlace, operator, site, left, right),
-        Operator::NotEqual => equated(alloc, environment, Relation::Unequal, Relation::OtherPlace, operator, site, left, right),
+        Operator::Multiply => computed(
+            alloc,
+            environment,
+            Arithmetic::Multiply,
+            operator,
+            site,
+            left,
+            right,
+        ),
+        Operator::Add => computed(
+            alloc,
+            environment,
+            Arithmetic::Add,
+            operator,
+            site,
+            left,
+            right,
+        ),
+        Operator::Subtract => computed(
+            alloc,
+            environment,
+            Arithmetic::Subtract,
+            operator,
+            site,
+            left,
+            right,
+        ),
+        Operator::Divide => divided(
+            alloc,
+            environment,
+            Arithmetic::Divide { site },
+            operator,
+            site,
+            left,
+            right,
+        ),
+        Operator::Remainder => divided(
+            alloc,
+            environment,
+            Arithmetic::Remainder { site },
+            operator,
+            site,
+            left,
+            right,
+        ),
+        Operator::Less => compared(
+            alloc,
+            environment,
+            int(),
+            Relation::Less,
+            operator,
+            site,
+            left,
+            right,
+        ),
+        Operator::Greater => compared(
+            alloc,
+            environment,
+            int(),
+            Relation::Greater,
+            operator,
+            site,
+            left,
+            right,
+        ),
+        Operator::LessEqual => compared(
+            alloc,
+            environment,
+            int(),
+            Relation::AtMost,
+            operator,
+            site,
+            left,
+            right,
+        ),
+        Operator::GreaterEqual => compared(
+            alloc,
+            environment,
+            int(),
+            Relation::AtLeast,
+            operator,
+            site,
+            left,
+            right,
+        ),
+        Operator::Equal => equated(
+            alloc,
+            environment,
+            Relation::Equal,
+            Relation::SamePlace,
+            operator,
+            site,
+            left,
+            right,
+        ),
+        Operator::NotEqual => equated(
+            alloc,
+            environment,
+            Relation::Unequal,
+            Relation::OtherPlace,
+            operator,
+            site,
+            left,
+            right,
+        ),
         Operator::And => both(alloc, environment, left, right),
         Operator::Or => either(alloc, environment, left, right),
         Operator::Comma => {
             let parts = left.parts(alloc, environment)?;
             Ok(stopped_at(environment, b",".as_slice(), site, parts))
         }
-        Operator::ShiftLeft | Operator::ShiftRight => stopped_both(alloc, environment, operator, site, left, right),
-        Operator::BitAnd | Operator::BitXor | Operator::BitOr => outside_both(alloc, environment, operator, site, left, right),
+        Operator::ShiftLeft | Operator::ShiftRight => stopped_both(
+            alloc,
+            environment,
+            operator,
+            site,
+            left,
+            right,
+        ),
+        Operator::BitAnd | Operator::BitXor | Operator::BitOr => outside_both(
+            alloc,
+            environment,
+            operator,
+            site,
+            left,
+            right,
+        ),
     }
 }
 
