@@ -11,7 +11,7 @@ use Rattle.px_real_declarations.specs.DeclarationTree.{SpecifierTree, keyword, G
 use Rattle.px_real_declarations.specs.Names.{declared_name, is_typedef}
 use Rattle.px_real_types.specs.declared.shape.ProfileType.{ProfileType}
 use Rattle.px_real_types.specs.Shapes.{in_profile}
-use Rattle.px_real_values.specs.declared.known.Known.{Known}
+use Rattle.px_real_types.specs.declared.known.Known.{Known}
 use Rattle.px_real_values.specs.Environment.{Environment, Meaning, enumerator}
 use Rattle.px_real_values.specs.Operands.{stop, needed}
 use Rattle.px_real_values.specs.Values.{first_site, valued}

@@ -6,7 +6,7 @@ use Rattle.px_expressions.specs.Reading.{or_else}
 use Rattle.px_real_types.specs.declared.shape.ProfileType.{ProfileType}
 use Rattle.px_real_values.specs.declared.environment.Library.{Library}
 use Rattle.px_real_values.specs.declared.environment.Library.TheVariants as L
-use Rattle.px_real_values.specs.Types.{unknown}
+use Rattle.px_real_types.specs.Types.{unknown}
 use Rattle.px_real_values.specs.Environment.{Signature, Callee, function, library, no_function, Meaning, local, enumerator, other, undeclared, Environment}
 use Rattle.px_real_scopes.specs.Scopes.{FunctionTree, MeaningTree, a_type, an_enumerator, an_object, a_function, a_local, Scopes}
 use Rattle.px_real_scopes.specs.Lookups.{meaning_of, member_of, is_defined, are_types, meanings}

@@ -16,8 +16,8 @@ use Rattle.px_real_declarations.specs.WorkedDeclarations.{column, sign}
 use Rattle.px_real_types.specs.declared.shape.Base.{Base}
 use Rattle.px_real_types.specs.declared.shape.Base.TheVariants as B
 use Rattle.px_real_types.specs.declared.shape.ProfileType.{ProfileType}
-use Rattle.px_real_values.specs.declared.known.Member.TheVariants as N
-use Rattle.px_real_values.specs.Types.{int, struct, pointer_to, unknown, known}
+use Rattle.px_real_types.specs.declared.known.Member.TheVariants as N
+use Rattle.px_real_types.specs.Types.{int, struct, pointer_to, unknown, known}
 use Rattle.px_real_values.specs.Operands.{stop}
 use Rattle.px_real_scopes.specs.Scopes.{a_type, an_object, a_local, of_name, Scopes}
 use Rattle.px_real_scopes.specs.WorkedScopes.{name_at, keyword_at, constant_at}

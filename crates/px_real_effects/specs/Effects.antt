@@ -14,7 +14,7 @@ use Rattle.px_real_expressions.specs.declared.operators.Step.TheVariants as S
 use Rattle.px_real_expressions.specs.ExpressionTree.{ExpressionTree, parenthesised, call, step, prefixed, assign}
 use Rattle.px_real_types.specs.declared.shape.ProfileType.{ProfileType}
 use Rattle.px_real_values.specs.declared.environment.Library.TheVariants as L
-use Rattle.px_real_values.specs.Types.{int, is_int}
+use Rattle.px_real_types.specs.Types.{int, is_int}
 use Rattle.px_real_values.specs.Environment.{Environment, Signature, function, library, type_id}
 use Rattle.px_real_values.specs.Operands.{Operand, a_name, stop, first_cell, parts, needed, freed}
 use Rattle.px_real_values.specs.Operators.{assignment_text, step_text}

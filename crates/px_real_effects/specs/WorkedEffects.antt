@@ -9,7 +9,7 @@ use Rattle.px_real_expressions.specs.declared.operators.Prefix.TheVariants as P
 use Rattle.px_real_expressions.specs.declared.operators.Operator.TheVariants as O
 use Rattle.px_real_expressions.specs.declared.operators.Step.TheVariants as S
 use Rattle.px_real_expressions.specs.ExpressionTree.{ExpressionTree, name, parenthesised, index, call, member, pointer_member, step, prefixed, binary, choice, assign, no_expressions, an_expression}
-use Rattle.px_real_values.specs.Types.{int, pointer_to}
+use Rattle.px_real_types.specs.Types.{int, pointer_to}
 use Rattle.px_real_values.specs.Operands.{stop, first_cell}
 use Rattle.px_real_values.specs.WorkedValues.{at, w, env, x, y, p, q, gc, gs, getchar, number, of_one, of_two, the_x, the_p, the_q, block, cell, pointed_struct}
 use Rattle.px_real_effects.specs.Effects.{performed, initialised, returned, argument_of, accessed}

@@ -4,7 +4,7 @@ use Rattle.std.proofs.lemmas.Bool.{ne_eqb}
 use Rattle.px_expressions.specs.Reading.{or_else}
 use Rattle.px_real_declarations.specs.DeclarationTree.{SpecifierTree, DeclaredTree, declaration}
 use Rattle.px_real_declarations.specs.Names.{is_typedef}
-use Rattle.px_real_values.specs.declared.known.Known.{Known}
+use Rattle.px_real_types.specs.declared.known.Known.{Known}
 use Rattle.px_real_scopes.specs.Scopes.{MeaningTree, Scopes}
 use Rattle.px_real_scopes.specs.Knowing.{type_word, specified_known}
 use Rattle.px_real_scopes.specs.Entering.{with_specifiers}

@@ -13,7 +13,7 @@ use Rattle.px_real_declarations.specs.Names.{declared_name, is_typedef}
 use Rattle.px_real_declaring.specs.Items.{nesting_limit}
 use Rattle.px_real_types.specs.Words.{is_struct_word}
 use Rattle.px_real_names.specs.Enumerated.{as_whole, struct_limit}
-use Rattle.px_real_values.specs.declared.known.Known.{Known}
+use Rattle.px_real_types.specs.declared.known.Known.{Known}
 use Rattle.px_real_scopes.specs.Scopes.{MeaningTree, TagTree, an_enumeration, BindingTree, begins_block, of_name, of_tag, of_place, NamedTree, Scopes}
 use Rattle.px_real_scopes.specs.Lookups.{behind_block, entered, is_seen, are_types}
 use Rattle.px_real_scopes.specs.Knowing.{type_word, specified_known}

@@ -11,11 +11,11 @@ use Rattle.px_real_types.specs.Shapes.{in_profile}
 use Rattle.px_real_types.specs.Specifiers.{specified}
 use Rattle.px_real_types.specs.Declarators.{declared_shape}
 use Rattle.px_real_types.specs.Cells.{cell_of, member_cells, members_cells}
-use Rattle.px_real_values.specs.declared.known.Known.{Known}
-use Rattle.px_real_values.specs.declared.known.Known.TheVariants as K
-use Rattle.px_real_values.specs.declared.known.Member.{Member}
-use Rattle.px_real_values.specs.declared.known.Member.TheVariants as N
-use Rattle.px_real_values.specs.Types.{unknown, is_array, record_in}
+use Rattle.px_real_types.specs.declared.known.Known.{Known}
+use Rattle.px_real_types.specs.declared.known.Known.TheVariants as K
+use Rattle.px_real_types.specs.declared.known.Member.{Member}
+use Rattle.px_real_types.specs.declared.known.Member.TheVariants as N
+use Rattle.px_real_types.specs.Types.{unknown, is_array, record_in}
 use Rattle.px_real_scopes.specs.Scopes.{NamedTree}
 use Rattle.px_real_scopes.specs.Lookups.{seen, meanings}
 use Rattle.px_real_scopes.specs.Knowing.{with_shape, said_known, specified_known, beyond_declarator, declared_known}

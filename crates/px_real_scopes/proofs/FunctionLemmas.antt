@@ -1,7 +1,7 @@
 -- What parameters say, by their lists.
 use Rattle.std.proofs.Common.{◌≡◌, ◌&&◌, true, false, List, [], ◌∷◌, length, get_or, map, Some, None, if◌then◌else◌, ap, ap₂, sym, arith}
 use Rattle.px_real_declarations.specs.DeclarationTree.{SpecifierTree, says_type, DeclaredTree, declaration}
-use Rattle.px_real_values.specs.Spelled.{is_nothing}
+use Rattle.px_real_types.specs.Declarators.{is_nothing}
 use Rattle.px_real_scopes.specs.Knowing.{if_type}
 use Rattle.px_real_scopes.specs.Functions.{is_void_word, is_void}
 

@@ -3,9 +3,9 @@ use Rattle.std.proofs.Common.{◌≡◌, ℕ, List, [], ◌∷◌, ◌++◌, map
 use Rattle.px_expressions.specs.Reading.{or_else}
 use Rattle.px_real_declarations.specs.Names.{declared_name}
 use Rattle.px_real_declarations.specs.DeclarationTree.{DeclaredTree}
-use Rattle.px_real_values.specs.declared.known.Known.{Known}
-use Rattle.px_real_values.specs.declared.known.Member.{Member}
-use Rattle.px_real_values.specs.declared.known.Member.TheVariants as N
+use Rattle.px_real_types.specs.declared.known.Known.{Known}
+use Rattle.px_real_types.specs.declared.known.Member.{Member}
+use Rattle.px_real_types.specs.declared.known.Member.TheVariants as N
 use Rattle.px_real_scopes.specs.Scopes.{NamedTree}
 use Rattle.px_real_scopes.specs.Steps.{MembersTree}
 use Rattle.px_real_scopes.specs.Entering.{counted, cells_among, member_made, with_member, with_each, inherited}

@@ -8,8 +8,8 @@ use Rattle.px_real_declaring.specs.declared.reading.DeclarationFault.TheVariants
 use Rattle.px_real_types.specs.declared.shape.ProfileType.{ProfileType}
 use Rattle.px_real_types.specs.Specifiers.{specified}
 use Rattle.px_real_types.specs.Declarators.{function_in}
-use Rattle.px_real_values.specs.declared.known.Known.{Known}
-use Rattle.px_real_values.specs.Types.{unknown}
+use Rattle.px_real_types.specs.declared.known.Known.{Known}
+use Rattle.px_real_types.specs.Types.{unknown}
 use Rattle.px_real_scopes.specs.Scopes.{MeaningTree, a_type, an_object, a_function, a_local, of_name, Scopes}
 use Rattle.px_real_scopes.specs.Lookups.{seen, meanings}
 use Rattle.px_real_scopes.specs.Knowing.{type_word, specified_known, declared_known, parameter_known}

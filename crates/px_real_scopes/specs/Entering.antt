@@ -13,10 +13,10 @@ use Rattle.px_real_declaring.specs.Items.{nesting_limit}
 use Rattle.px_real_types.specs.Shapes.{in_profile}
 use Rattle.px_real_types.specs.Words.{is_struct_word}
 use Rattle.px_real_names.specs.Enumerated.{as_whole, struct_limit}
-use Rattle.px_real_values.specs.declared.known.Known.{Known}
-use Rattle.px_real_values.specs.declared.known.Member.{Member}
-use Rattle.px_real_values.specs.declared.known.Member.TheVariants as N
-use Rattle.px_real_values.specs.Types.{known}
+use Rattle.px_real_types.specs.declared.known.Known.{Known}
+use Rattle.px_real_types.specs.declared.known.Member.{Member}
+use Rattle.px_real_types.specs.declared.known.Member.TheVariants as N
+use Rattle.px_real_types.specs.Types.{known}
 use Rattle.px_real_scopes.specs.Scopes.{an_enumerator, TagTree, a_record, an_enumeration, BindingTree, of_name, of_tag, of_place, NamedTree, Scopes}
 use Rattle.px_real_scopes.specs.Lookups.{tag_of, number_in, placed, own_block, is_seen, members_of, is_defined, seen, are_types}
 use Rattle.px_real_scopes.specs.Knowing.{type_specifier, specified_known, declared_known}

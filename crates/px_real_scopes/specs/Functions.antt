@@ -14,8 +14,8 @@ use Rattle.px_real_types.specs.Specifiers.{specified}
 use Rattle.px_real_types.specs.Declarators.{SignatureTree, declared_shape}
 use Rattle.px_real_types.specs.Cells.{parameter_of}
 use Rattle.px_real_names.specs.Enumerated.{as_whole}
-use Rattle.px_real_values.specs.Types.{int}
-use Rattle.px_real_values.specs.Spelled.{is_nothing}
+use Rattle.px_real_types.specs.Types.{int}
+use Rattle.px_real_types.specs.Declarators.{is_nothing}
 use Rattle.px_real_scopes.specs.Scopes.{FunctionTree, Scopes}
 use Rattle.px_real_scopes.specs.Lookups.{first_said, are_types, meanings}
 

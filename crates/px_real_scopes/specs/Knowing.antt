@@ -9,9 +9,9 @@ use Rattle.px_real_types.specs.declared.shape.Shape.TheVariants as S
 use Rattle.px_real_types.specs.Shapes.{as_parameter}
 use Rattle.px_real_types.specs.Specifiers.{specified}
 use Rattle.px_real_types.specs.Declarators.{bare_name, declared_shape}
-use Rattle.px_real_values.specs.declared.known.Known.{Known}
-use Rattle.px_real_values.specs.declared.known.Known.TheVariants as K
-use Rattle.px_real_values.specs.Types.{unknown, is_array, record_in}
+use Rattle.px_real_types.specs.declared.known.Known.{Known}
+use Rattle.px_real_types.specs.declared.known.Known.TheVariants as K
+use Rattle.px_real_types.specs.Types.{unknown, is_array, record_in}
 use Rattle.px_real_scopes.specs.Scopes.{Scopes}
 use Rattle.px_real_scopes.specs.Lookups.{first_said, seen, known_type, number_of, record_known, meanings}
 

@@ -2,8 +2,8 @@
 use Rattle.std.specs.Prelude.{◌≡◌, ℕ, zero, suc, List, [], ◌∷◌, ◌++◌, Bool, true, Some}
 use Rattle.px_real_declarations.specs.DeclarationTree.{SpecifierTree, DeclaredTree, DeclarationTree, declaration}
 use Rattle.px_real_types.specs.Cells.{CellTree, cells_in}
-use Rattle.px_real_values.specs.declared.known.Member.{Member}
-use Rattle.px_real_values.specs.declared.known.Member.TheVariants as N
+use Rattle.px_real_types.specs.declared.known.Member.{Member}
+use Rattle.px_real_types.specs.declared.known.Member.TheVariants as N
 use Rattle.px_real_scopes.specs.Scopes.{NamedTree, Scopes}
 use Rattle.px_real_scopes.specs.Lookups.{meanings, entered, left}
 use Rattle.px_real_scopes.specs.Entering.{in_turn, cells_among, with_members}

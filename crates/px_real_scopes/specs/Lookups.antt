@@ -8,10 +8,10 @@ use Rattle.px_real_types.specs.declared.shape.Base.TheVariants as B
 use Rattle.px_real_types.specs.declared.shape.Shape.{Shape}
 use Rattle.px_real_types.specs.declared.shape.Shape.TheVariants as S
 use Rattle.px_real_types.specs.Scopes.{Meanings}
-use Rattle.px_real_values.specs.declared.known.Known.{Known}
-use Rattle.px_real_values.specs.declared.known.Known.TheVariants as K
-use Rattle.px_real_values.specs.declared.known.Member.{Member}
-use Rattle.px_real_values.specs.Types.{unknown}
+use Rattle.px_real_types.specs.declared.known.Known.{Known}
+use Rattle.px_real_types.specs.declared.known.Known.TheVariants as K
+use Rattle.px_real_types.specs.declared.known.Member.{Member}
+use Rattle.px_real_types.specs.Types.{unknown}
 use Rattle.px_real_scopes.specs.Scopes.{MeaningTree, a_type, TagTree, a_record, BindingTree, begins_block, of_name, of_tag, of_place, NamedTree, DefinitionTree, Scopes}
 
 -- what the first of these says that says something

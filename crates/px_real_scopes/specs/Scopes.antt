@@ -2,8 +2,8 @@
 use Rattle.std.specs.Prelude.{ℕ, List, [], Bool, Option}
 use Rattle.px_base.specs.declared.trace.Site.{Site}
 use Rattle.px_real_types.specs.declared.shape.ProfileType.{ProfileType}
-use Rattle.px_real_values.specs.declared.known.Known.{Known}
-use Rattle.px_real_values.specs.declared.known.Member.{Member}
+use Rattle.px_real_types.specs.declared.known.Known.{Known}
+use Rattle.px_real_types.specs.declared.known.Member.{Member}
 
 -- the type of a function: its parameters in order, of which those that aren't of the profile are erased, whether it takes more arguments, and
 -- the type of its result, if that is of the profile

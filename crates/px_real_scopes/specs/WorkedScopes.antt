@@ -7,10 +7,10 @@ use Rattle.px_real_declarations.specs.WorkedDeclarations.{column, sign, alone}
 use Rattle.px_real_types.specs.declared.shape.Base.TheVariants as B
 use Rattle.px_real_types.specs.declared.shape.Shape.TheVariants as S
 use Rattle.px_real_types.specs.declared.shape.ProfileType.{ProfileType}
-use Rattle.px_real_values.specs.declared.known.Known.TheVariants as K
-use Rattle.px_real_values.specs.declared.known.Member.{Member}
-use Rattle.px_real_values.specs.declared.known.Member.TheVariants as N
-use Rattle.px_real_values.specs.Types.{int, struct, pointer_to, unknown, known}
+use Rattle.px_real_types.specs.declared.known.Known.TheVariants as K
+use Rattle.px_real_types.specs.declared.known.Member.{Member}
+use Rattle.px_real_types.specs.declared.known.Member.TheVariants as N
+use Rattle.px_real_types.specs.Types.{int, struct, pointer_to, unknown, known}
 use Rattle.px_real_scopes.specs.Scopes.{FunctionTree, a_type, an_enumerator, an_object, a_function, a_record, an_enumeration, BindingTree, begins_block, of_name, of_tag, of_place, NamedTree, DefinitionTree, Scopes, nothing_in_scope}
 use Rattle.px_real_scopes.specs.Lookups.{entered, left}
 use Rattle.px_real_scopes.specs.Entering.{in_turn}

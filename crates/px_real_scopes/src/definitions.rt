@@ -6,7 +6,7 @@ ghost use Rattle.px_real_scopes.specs.Keys.{numbers_of, last_of};
 
 use crate::meaning::{Definition, NamedMember};
 use px_chains::Chains;
-use px_real_values::Member;
+use px_real_types::Member;
 use px_terms::NoMemory;
 use std::alloc::Global;
 use std::marker::Model;

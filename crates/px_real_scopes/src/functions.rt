@@ -9,15 +9,14 @@ ghost use Rattle.px_real_scopes.specs.Functions as Rules;
 ghost use Rattle.px_real_scopes.specs.Steps.{is_memory};
 ghost use Rattle.px_real_scopes.specs.Views.{function_view};
 
-use crate::known::is_nothing;
 use crate::meaning::Function;
 use crate::scopes::Scopes;
 use px_real_declaring::{Declaration, DeclarationFault, Declared, Specifier};
 use px_real_members::{Head, Parameters, parameters_of};
 use px_real_names::enumerated::within;
 use px_real_types::{
-    Base, ProfileType, Shape, Signature, Texts, declared_name, declared_shape, parameter_of,
-    specified,
+    Base, ProfileType, Shape, Signature, Texts, declared_name, declared_shape, is_nothing,
+    parameter_of, specified,
 };
 use px_syntax::Name;
 use px_terms::NoMemory;

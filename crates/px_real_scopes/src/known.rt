@@ -3,14 +3,12 @@ ghost use Rattle.px_real_expressions.specs.Lexemes.{Lexeme};
 ghost use Rattle.px_real_declaring.specs.Trees.{declarator_tree, declared_tree};
 ghost use Rattle.px_real_types.specs.Declarators.{bare_name};
 ghost use Rattle.px_real_types.specs.Scopes.{texts};
-ghost use Rattle.px_real_values.specs.Types.{unknown};
-ghost use Rattle.px_real_values.specs.Spelled.{is_nothing};
+ghost use Rattle.px_real_types.specs.Types.{unknown};
 ghost use Rattle.px_real_scopes.specs.Lookups.{seen};
 ghost use Rattle.px_real_scopes.specs.Knowing.{beyond, begins_array, beyond_by, with_shape, is_array_of, beyond_declarator, declared_known, parameter_known};
 
 use px_real_declaring::{Declarator, Declared, Suffix};
-use px_real_types::{Base, Shape, Texts, declared_shape};
-use px_real_values::Known;
+use px_real_types::{Base, Known, Shape, Texts, declared_shape};
 
 // Nothing.
 pub fn unknown() -> Known
@@ -53,19 +51,6 @@ pub fn with_shape(shape: Shape, known: Known) -> Known
     match shape {
         Shape::Outside => beyond(known),
         _ => Known::Seen(shape),
-    }
-}
-
-// Whether a declarator is nothing at all.
-#[cycle(is_nothing)]
-#[tactic(auto, using(px_real_declaring::proofs::DeclaratorEquations::trees))]
-pub fn is_nothing(declarator: &Declarator) -> bool
-    ensures { (all : List Lexeme) → result ≡ is_nothing (declarator_tree all declarator.now) }
-{
-    match declarator {
-        Declarator::NoName => true,
-        Declarator::Suffixed { core, suffixes } => suffixes.is_empty() && is_nothing(core),
-        Declarator::Name { .. } | Declarator::Inner { .. } | Declarator::Pointer { .. } => false,
     }
 }
 

@@ -1,6 +1,5 @@
 use px_base::Site;
-use px_real_types::ProfileType;
-use px_real_values::{Known, Member};
+use px_real_types::{Known, Member, ProfileType};
 use px_syntax::Name;
 
 /// The type of a function. Those of its parameters that aren't of the profile are erased, and so is what it takes beyond them, if it takes more.

@@ -2,7 +2,7 @@ ghost use Rattle.std.specs.Prelude.{◌≡◌, ◌∷◌, ◌++◌, [], map, not
 ghost use Rattle.px_real_expressions.specs.Lexemes.{Lexeme};
 ghost use Rattle.px_real_declaring.specs.Trees.{specifier_tree, declared_tree};
 ghost use Rattle.px_real_types.specs.Scopes.{texts};
-ghost use Rattle.px_real_values.specs.Types.{known};
+ghost use Rattle.px_real_types.specs.Types.{known};
 ghost use Rattle.px_real_scopes.specs.Entering as Rules;
 ghost use Rattle.px_real_scopes.specs.Views.{member_view};
 
@@ -10,8 +10,7 @@ use crate::known::{declared_known, seen};
 use crate::meaning::NamedMember;
 use crate::scopes::{Scopes, type_specifier};
 use px_real_declaring::{Declared, Specifier};
-use px_real_types::{Base, ProfileType, Shape, Texts, declared_name};
-use px_real_values::{Known, Member};
+use px_real_types::{Base, Known, Member, ProfileType, Shape, Texts, declared_name};
 use px_syntax::Name;
 use px_terms::NoMemory;
 use std::alloc::Global;

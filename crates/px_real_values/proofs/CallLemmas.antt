@@ -11,7 +11,7 @@ use Rattle.px_real_reading.specs.declared.tree.Expression.{Expression as Tree}
 use Rattle.px_real_reading.specs.Trees.{expression_tree}
 use Rattle.px_real_types.specs.declared.shape.ProfileType.{ProfileType}
 use Rattle.px_real_values.specs.declared.calls.Given.{Given as Kept}
-use Rattle.px_real_values.specs.Types.{int}
+use Rattle.px_real_types.specs.Types.{int}
 use Rattle.px_real_values.specs.Environment.{Environment, Signature}
 use Rattle.px_real_values.specs.Operands.{of_type}
 use Rattle.px_real_values.specs.Operators.{stopped_at}

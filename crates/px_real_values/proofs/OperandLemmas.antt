@@ -9,7 +9,7 @@ use Rattle.px_syntax.specs.TypedTree as T
 use Rattle.px_syntax.specs.TypedTree.{Expression}
 use Rattle.px_real_expressions.specs.declared.operators.Operator.{Operator}
 use Rattle.px_real_types.specs.declared.shape.ProfileType.{ProfileType}
-use Rattle.px_real_values.specs.Types.{int}
+use Rattle.px_real_types.specs.Types.{int}
 use Rattle.px_real_values.specs.Environment.{Environment}
 use Rattle.px_real_values.specs.Operands.{Operand, of_type, a_test, parts, typed_as, needed, unwanted}
 use Rattle.px_real_values.specs.Operators.{operator_text, outside_of, stopped_at, typed_both, computed, divided, compared, negated}

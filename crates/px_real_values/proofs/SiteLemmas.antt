@@ -10,7 +10,7 @@ use Rattle.px_real_reading.specs.declared.tree.Expression.{Expression}
 use Rattle.px_real_reading.specs.declared.tree.Expression.TheVariants as V
 use Rattle.px_real_reading.specs.Trees.{LinkTree, SuffixTree, an_index, a_call, a_member, a_pointer_member, a_step, expression_tree, suffix_tree, link_tree, chained, suffixed, all_suffixed}
 use Rattle.px_real_reading.proofs.TreeEquations.{tree-Postfix, tree-Binary}
-use Rattle.px_real_values.specs.declared.known.Known.{Known}
+use Rattle.px_real_types.specs.declared.known.Known.{Known}
 use Rattle.px_real_values.specs.Environment.{Environment}
 use Rattle.px_real_values.specs.Values.{first_site, is_zero, measured}
 

@@ -7,7 +7,7 @@ use Rattle.px_syntax.specs.TypedTree.{Expression, Argument, Arguments}
 use Rattle.px_real_types.specs.declared.shape.ProfileType.{ProfileType}
 use Rattle.px_real_values.specs.declared.environment.Library.{Library}
 use Rattle.px_real_values.specs.declared.environment.Library.TheVariants as L
-use Rattle.px_real_values.specs.Types.{int}
+use Rattle.px_real_types.specs.Types.{int}
 use Rattle.px_real_values.specs.Environment.{Environment, Signature, Callee, function, library, no_function, value_type}
 use Rattle.px_real_values.specs.Operands.{Operand, of_type, a_block, a_name, parts, unless_stopped, needed}
 use Rattle.px_real_values.specs.Operators.{outside_of, stopped_at}

@@ -8,10 +8,10 @@ use Rattle.px_real_expressions.specs.Lexemes.{Lexeme}
 use Rattle.px_real_declarations.specs.Grammar.{Types}
 use Rattle.px_real_types.specs.declared.shape.ProfileType.{ProfileType}
 use Rattle.px_real_types.specs.Scopes.{Meanings}
-use Rattle.px_real_values.specs.declared.known.Known.{Known}
-use Rattle.px_real_values.specs.declared.known.Member.{Member}
+use Rattle.px_real_types.specs.declared.known.Known.{Known}
+use Rattle.px_real_types.specs.declared.known.Member.{Member}
 use Rattle.px_real_values.specs.declared.environment.Library.{Library}
-use Rattle.px_real_values.specs.Types.{pointee}
+use Rattle.px_real_types.specs.Types.{pointee}
 use Rattle.px_real_values.specs.Spelled.{Spelled, spelled_by, untabled}
 
 -- a function: its parameters in order, of which those that aren't of the profile are erased, whether it takes more arguments, which are

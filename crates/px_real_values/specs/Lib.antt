@@ -1,4 +1,3 @@
-pub mod Types
 pub mod Spelled
 pub mod Environment
 pub mod Operands

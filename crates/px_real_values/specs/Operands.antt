@@ -7,8 +7,8 @@ use Rattle.px_expressions.specs.Reading.{or_else}
 use Rattle.px_syntax.specs.TypedTree as T
 use Rattle.px_syntax.specs.TypedTree.{Expression, Condition}
 use Rattle.px_real_types.specs.declared.shape.ProfileType.{ProfileType}
-use Rattle.px_real_values.specs.declared.known.Known.{Known}
-use Rattle.px_real_values.specs.Types.{int, struct, pointer_to, is_pointer, is_int, pointee, same_type, unknown, known, is_array}
+use Rattle.px_real_types.specs.declared.known.Known.{Known}
+use Rattle.px_real_types.specs.Types.{int, struct, pointer_to, is_pointer, is_int, pointee, same_type, unknown, known, is_array}
 use Rattle.px_real_values.specs.Environment.{Environment, Callee, type_id}
 
 pub data Operand : Type 0 where

@@ -19,11 +19,11 @@ use Rattle.px_real_expressions.specs.declared.operators.Measure.TheVariants as M
 use Rattle.px_real_types.specs.declared.shape.ProfileType.{ProfileType}
 use Rattle.px_real_types.specs.Shapes.{in_profile}
 use Rattle.px_terms.specs.declared.types.TypeId.{TypeId}
-use Rattle.px_real_values.specs.declared.known.Known.{Known}
-use Rattle.px_real_values.specs.declared.known.Known.TheVariants as K
-use Rattle.px_real_values.specs.declared.known.Member.{Member}
-use Rattle.px_real_values.specs.declared.known.Member.TheVariants as N
-use Rattle.px_real_values.specs.Types.{int, struct, pointer_to, is_pointer, is_int, is_value, pointee, number_of, same_type, unknown, known, element, record_in, member_type}
+use Rattle.px_real_types.specs.declared.known.Known.{Known}
+use Rattle.px_real_types.specs.declared.known.Known.TheVariants as K
+use Rattle.px_real_types.specs.declared.known.Member.{Member}
+use Rattle.px_real_types.specs.declared.known.Member.TheVariants as N
+use Rattle.px_real_types.specs.Types.{int, struct, pointer_to, is_pointer, is_int, is_value, pointee, number_of, same_type, unknown, known, element, record_in, member_type}
 use Rattle.px_real_values.specs.Environment.{Environment, type_id}
 use Rattle.px_real_values.specs.Spelled.{Spelled}
 use Rattle.px_real_values.specs.Operands.{Operand, of_type, a_zero, a_null, a_test, a_block, a_name, a_member, outside, a_struct, an_object, stopped, first_cell, reached, known_of, typed_value, unless_stopped, malloc_word, parts, pointer_parts, typed_as, deciding}

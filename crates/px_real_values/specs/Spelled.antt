@@ -1,5 +1,5 @@
 -- The types that names of types in expressions spell (C11 6.7.7): a type's name is a parameter that has no name.
-use Rattle.std.specs.Prelude.{◌≡◌, List, [], ◌∷◌, map, Bool, true, false, ◌||◌, Result, Ok, Err}
+use Rattle.std.specs.Prelude.{◌≡◌, List, [], ◌∷◌, map, Bool, false, ◌||◌, Result, Ok, Err}
 use Rattle.px_real_expressions.specs.declared.terminal.Terminal.{Terminal}
 use Rattle.px_real_expressions.specs.declared.terminal.Terminal.TheVariants as T
 use Rattle.px_real_expressions.specs.Lexemes.{Lexeme}
@@ -13,7 +13,7 @@ use Rattle.px_real_types.specs.declared.shape.Shape.{Shape}
 use Rattle.px_real_types.specs.declared.shape.Shape.TheVariants as S
 use Rattle.px_real_types.specs.Scopes.{Meanings}
 use Rattle.px_real_types.specs.Specifiers.{specified}
-use Rattle.px_real_types.specs.Declarators.{declared_shape}
+use Rattle.px_real_types.specs.Declarators.{declared_shape, is_nothing}
 
 -- a type, and whether it is written as a pointer, as `T *`
 pub record Spelled : Type 0 where
@@ -22,10 +22,6 @@ pub record Spelled : Type 0 where
 
 abbrev pub nothing_seen : Spelled
 nothing_seen = record { shape = S.Outside; is_starred = false }
-
-abbrev pub is_nothing : DeclaratorTree → Bool
-is_nothing no_name = true
-is_nothing _ = false
 
 -- whether a star stands nearest to where the name would stand: then the type is a pointer
 abbrev pub is_starred : DeclaratorTree → Bool

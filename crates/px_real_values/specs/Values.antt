@@ -10,9 +10,9 @@ use Rattle.px_real_expressions.specs.declared.operators.Measure.TheVariants as M
 use Rattle.px_real_expressions.specs.Lexemes.{Lexeme}
 use Rattle.px_real_expressions.specs.ExpressionTree.{ExpressionTree, ExpressionTrees, name, constant, string, parenthesised, statement, literal, form, index, call, member, pointer_member, step, prefixed, label, measure, measure_type, cast, binary, choice, choice_or, assign, no_expressions, an_expression}
 use Rattle.px_real_types.specs.declared.shape.ProfileType.{ProfileType}
-use Rattle.px_real_values.specs.declared.known.Known.{Known}
-use Rattle.px_real_values.specs.declared.known.Known.TheVariants as K
-use Rattle.px_real_values.specs.Types.{unknown, element, block_in, number_of}
+use Rattle.px_real_types.specs.declared.known.Known.{Known}
+use Rattle.px_real_types.specs.declared.known.Known.TheVariants as K
+use Rattle.px_real_types.specs.Types.{unknown, element, block_in, number_of}
 use Rattle.px_real_values.specs.Environment.{Environment, Meaning, local, enumerator, other, undeclared, no_function, spelled}
 use Rattle.px_real_values.specs.Operands.{Operand, of_type, a_null, a_name, unless_stopped, counted, known_of, parts, pointer_parts}
 use Rattle.px_real_values.specs.Operators as Op

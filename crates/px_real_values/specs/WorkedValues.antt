@@ -21,11 +21,11 @@ use Rattle.px_real_types.specs.declared.shape.Base.{Base}
 use Rattle.px_real_types.specs.declared.shape.Base.TheVariants as B
 use Rattle.px_real_types.specs.declared.shape.Shape.TheVariants as Sh
 use Rattle.px_real_types.specs.declared.shape.ProfileType.{ProfileType}
-use Rattle.px_real_values.specs.declared.known.Known.TheVariants as K
-use Rattle.px_real_values.specs.declared.known.Member.{Member}
-use Rattle.px_real_values.specs.declared.known.Member.TheVariants as N
+use Rattle.px_real_types.specs.declared.known.Known.TheVariants as K
+use Rattle.px_real_types.specs.declared.known.Member.{Member}
+use Rattle.px_real_types.specs.declared.known.Member.TheVariants as N
 use Rattle.px_real_values.specs.declared.environment.Library.TheVariants as L
-use Rattle.px_real_values.specs.Types.{int, struct, pointer_to, unknown, known}
+use Rattle.px_real_types.specs.Types.{int, struct, pointer_to, unknown, known}
 use Rattle.px_real_values.specs.Spelled.{nothing_seen}
 use Rattle.px_real_values.specs.Environment.{Environment, Meaning, local, enumerator, other, undeclared, function, library, no_function}
 use Rattle.px_real_values.specs.Operands.{Operand, of_type, a_null, a_test, a_block, a_name, a_member, outside, a_struct, an_object, stopped, stop, parts, needed, deciding, freed}

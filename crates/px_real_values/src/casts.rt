@@ -5,12 +5,11 @@ ghost use Rattle.px_real_values.specs.Operators as Rules;
 ghost use Rattle.px_real_values.specs.Views.{operand_seen, spelled_seen};
 
 use crate::environment::{Environment, TypeSpelled};
-use crate::known::Known;
 use crate::operand::Operand;
 use crate::operators::stopped_at;
 use crate::types::{is_int, is_pointer, known, points_to, same_type, type_id};
 use px_base::Site;
-use px_real_types::ProfileType;
+use px_real_types::{Known, ProfileType};
 use px_syntax::TypedExpression;
 use px_terms::NoMemory;
 use std::alloc::Global;

@@ -4,10 +4,9 @@ ghost use Rattle.px_real_symbols.specs.Symbols.{held_in};
 ghost use Rattle.px_real_values.specs.Environment as Seen;
 ghost use Rattle.px_real_values.specs.Views.{meaning_seen, spelled_seen};
 
-use crate::known::{Known, Member};
 use px_base::ProcId;
 use px_real_symbols::Span;
-use px_real_types::{ProfileType, Shape};
+use px_real_types::{Known, Member, ProfileType, Shape};
 use px_terms::NoMemory;
 use std::alloc::Global;
 

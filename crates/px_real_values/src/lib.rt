@@ -5,7 +5,6 @@
 mod calls;
 mod casts;
 mod environment;
-mod known;
 mod laws;
 mod members;
 mod operand;
@@ -16,7 +15,6 @@ mod values;
 mod words;
 
 pub use environment::{Callee, Environment, Library, Meaning, Signature, TypeSpelled};
-pub use known::{Known, Member};
 pub use laws::{types_are_spelled, worked_values};
 pub use operand::{Operand, alone, last_cell, put, put_all, stop};
 pub use spelling::type_spelled;

@@ -2,20 +2,19 @@ ghost use Rattle.std.specs.Prelude.{◌≡◌, ◌∷◌, [], map, codes, IfOk};
 ghost use Rattle.px_expressions.specs.Reading.{or_else};
 ghost use Rattle.px_syntax.specs.TypedTree as T;
 ghost use Rattle.px_syntax.specs.TypedViews.{typed_expression};
-ghost use Rattle.px_real_values.specs.Types as Types;
+ghost use Rattle.px_real_types.specs.Types as Types;
 ghost use Rattle.px_real_values.specs.Operands as Operands;
 ghost use Rattle.px_real_values.specs.Operators as Rules;
 ghost use Rattle.px_real_values.specs.Views.{operand_seen};
 
 use crate::environment::Environment;
-use crate::known::{Known, Member};
 use crate::operand::{Operand, alone, reached};
 use crate::operators::{outside_of, stopped_at};
 use crate::types::{
     element, is_value, member_type, number_of, pointee, record_in, structure, type_id, unknown,
 };
 use px_base::{FieldId, Site};
-use px_real_types::ProfileType;
+use px_real_types::{Known, Member, ProfileType};
 use px_syntax::{CellLink, Name, TypedExpression};
 use px_terms::{NoMemory, TypeId};
 use std::alloc::Global;

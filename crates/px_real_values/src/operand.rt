@@ -6,13 +6,12 @@ ghost use Rattle.px_real_values.specs.Turns.{goes_on};
 ghost use Rattle.px_real_values.specs.Views.{operand_seen};
 
 use crate::environment::{Callee, Environment};
-use crate::known::Known;
 use crate::types::{
     int, is_array, is_int, is_pointer, known, pointee, points_to, same_type, structure, type_id,
     unknown,
 };
 use px_base::{FieldId, Site};
-use px_real_types::ProfileType;
+use px_real_types::{Known, ProfileType};
 use px_syntax::{CellLink, Condition, TypedExpression};
 use px_terms::{NoMemory, TypeId};
 use std::alloc::Global;

@@ -3,7 +3,7 @@ ghost use Rattle.px_syntax.specs.TypedTree as T;
 ghost use Rattle.px_syntax.specs.TypedViews.{typed_expression, typed_condition};
 ghost use Rattle.px_real_values.specs.Operators as Rules;
 ghost use Rattle.px_real_values.specs.Operands as Operands;
-ghost use Rattle.px_real_values.specs.Types as Types;
+ghost use Rattle.px_real_types.specs.Types as Types;
 ghost use Rattle.px_real_values.specs.Views.{operand_seen};
 
 use crate::environment::Environment;

@@ -9,25 +9,14 @@ ghost use Rattle.px_real_values.specs.Spelled as Rules;
 ghost use Rattle.px_real_values.specs.Views.{spelled_seen};
 
 use crate::environment::TypeSpelled;
-use px_real_declaring::{Declaration, DeclarationFault, Declarator, Declared, Specifier, parameter_of};
+use px_real_declaring::{
+    Declaration, DeclarationFault, Declarator, Declared, Specifier, parameter_of,
+};
 use px_real_symbols::TypeNames;
 use px_real_tokens::Token;
-use px_real_types::{Scope, Shape, Texts, declared_shape, specified};
+use px_real_types::{Scope, Shape, Texts, declared_shape, is_nothing, specified};
 use px_terms::NoMemory;
 use std::alloc::Global;
-
-// Whether a declarator is nothing at all.
-#[cycle(is_nothing)]
-#[tactic(auto, using(px_real_declaring::proofs::DeclaratorEquations::trees))]
-fn is_nothing(declarator: &Declarator) -> bool
-    ensures { (all : List Lexeme) → result ≡ Rules.is_nothing (declarator_tree all declarator.now) }
-{
-    match declarator {
-        Declarator::NoName => true,
-        Declarator::Suffixed { core, suffixes } => suffixes.is_empty() && is_nothing(core),
-        Declarator::Name { .. } | Declarator::Inner { .. } | Declarator::Pointer { .. } => false,
-    }
-}
 
 // Whether a star stands nearest to where the name would stand.
 #[cycle(is_starred)]

@@ -1,11 +1,10 @@
 ghost use Rattle.std.specs.Prelude.{◌≡◌};
 ghost use Rattle.px_terms.specs.declared.types.ValueType.{ValueType};
-ghost use Rattle.px_real_values.specs.Types as Types;
+ghost use Rattle.px_real_types.specs.Types as Types;
 ghost use Rattle.px_real_values.specs.Environment as Seen;
 
 use crate::environment::Environment;
-use crate::known::{Known, Member};
-use px_real_types::{Base, ProfileType, Shape};
+use px_real_types::{Base, Known, Member, ProfileType, Shape};
 use px_terms::{TypeId, ValueType};
 
 pub fn int() -> ProfileType

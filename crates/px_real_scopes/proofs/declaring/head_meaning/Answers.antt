@@ -4,7 +4,7 @@ use Rattle.px_real_members.specs.Trees.{head_tree}
 use Rattle.px_real_types.specs.Scopes.{texts}
 use Rattle.px_real_types.specs.Specifiers.{specified}
 use Rattle.px_real_types.specs.Declarators.{function_in, signature_tree}
-use Rattle.px_real_values.specs.Types.{unknown}
+use Rattle.px_real_types.specs.Types.{unknown}
 use Rattle.px_real_scopes.specs.Scopes.{an_object, a_function}
 use Rattle.px_real_scopes.specs.Lookups.{meanings}
 use Rattle.px_real_scopes.specs.Knowing.{type_word}

@@ -1,6 +1,6 @@
 use Rattle.std.proofs.Common.{◌≡◌, length, true, ◌&&◌, sym, ap, ◌∙◌, arith}
 use Rattle.px_real_declaring.specs.Trees.{specifier_tree, declarator_tree, declared_tree, declaration_tree}
-use Rattle.px_real_values.specs.Spelled.{is_nothing}
+use Rattle.px_real_types.specs.Declarators.{is_nothing}
 use Rattle.px_real_scopes.specs.Functions.{is_void_word, is_void}
 use Rattle.px_real_scopes.proofs.FunctionLemmas.{void_is}
 use Rattle.px_real_scopes.proofs.functions.is_void.Goals as goal

@@ -2,7 +2,8 @@ use Rattle.std.proofs.Common.{◌≡◌, Bool, ◌||◌, sym, ap, ◌∙◌}
 use Rattle.px_real_declaring.specs.Trees.{declarator_tree}
 use Rattle.px_real_declaring.proofs.DeclaratorEquations.{tree-Inner, tree-Pointer}
 use Rattle.px_real_types.proofs.SuffixedLemmas.{tree_is}
-use Rattle.px_real_values.specs.Spelled.{is_nothing, is_starred}
+use Rattle.px_real_types.specs.Declarators.{is_nothing}
+use Rattle.px_real_values.specs.Spelled.{is_starred}
 use Rattle.px_real_values.proofs.StarLemmas.{starred_kept, first_true, first_false}
 use Rattle.px_real_values.proofs.spelling.+is_starred.Goals as goal
 

@@ -1,6 +1,6 @@
 use Rattle.std.proofs.Common.{map, ◌∙◌}
 use Rattle.px_real_declaring.specs.Trees.{specifier_tree}
-use Rattle.px_real_values.specs.Types.{unknown}
+use Rattle.px_real_types.specs.Types.{unknown}
 use Rattle.px_real_scopes.specs.Knowing.{type_specifier, specifier_known}
 use Rattle.px_real_scopes.proofs.TurnLemmas.{or_some, or_none}
 use Rattle.px_real_scopes.proofs.scopes.Scopes.said_known.Goals as goal

@@ -1,4 +1,4 @@
-use px_real_types::{ProfileType, Shape};
+use crate::shape::{ProfileType, Shape};
 
 /// What is known of the type of an object, a member or an expression.
 #[derive(Clone, Copy, Debug, PartialEq, Eq)]

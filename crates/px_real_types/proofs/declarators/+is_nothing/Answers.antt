@@ -3,9 +3,9 @@ use Rattle.std.proofs.lemmas.Bool.{eqb-true}
 use Rattle.std.proofs.lemmas.List.{nil_from_length}
 use Rattle.px_real_declaring.specs.Trees.{declarator_tree}
 use Rattle.px_real_types.proofs.SuffixedLemmas.{tree_is}
-use Rattle.px_real_values.specs.Spelled.{is_nothing}
-use Rattle.px_real_values.proofs.StarLemmas.{nothing_alone, nothing_never}
-use Rattle.px_real_scopes.proofs.known.+is_nothing.Goals as goal
+use Rattle.px_real_types.specs.Declarators.{is_nothing}
+use Rattle.px_real_types.proofs.NothingLemmas.{nothing_alone, nothing_never}
+use Rattle.px_real_types.proofs.declarators.+is_nothing.Goals as goal
 
 pub returns-then-is_empty : goal.returns-then-is_empty
 returns-then-is_empty t c = λ all.
