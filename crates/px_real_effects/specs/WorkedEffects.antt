@@ -79,8 +79,8 @@ pub record Updates : Type 0 where
 
 pub record Others : Type 0 where
   -- `f(x, gc)`, `h()`, `free(p)`, `free(gc)`, `free(p, p)`, `getchar()`
-  pub a_call : Does (of_two (name (codes "f") (at 1)) 2 (x 3) (gc 6)) (T.run_call (record { 0 = 7 }) (T.an_expression (the_x 3) T.no_expressions) (at 1) ∷ [])
-  pub without_arguments : Does (call (at 2) (name (codes "h") (at 1)) no_expressions) (T.run_call (record { 0 = 8 }) T.no_expressions (at 1) ∷ [])
+  pub a_call : Does (of_two (name (codes "f") (at 1)) 2 (x 3) (gc 6)) (T.run_call (record { 0 = 7 }) (T.an_argument (T.passed (the_x 3)) (T.an_argument (T.erased T.no_expressions) T.no_arguments)) (at 1) ∷ [])
+  pub without_arguments : Does (call (at 2) (name (codes "h") (at 1)) no_expressions) (T.run_call (record { 0 = 8 }) T.no_arguments (at 1) ∷ [])
   pub of_another_number : Does (of_one (name (codes "f") (at 1)) 2 (x 3)) (stops (the_x 3 ∷ []) (codes "call") 1)
   pub a_free : Does (of_one (name (codes "free") (at 1)) 5 (p 6)) (T.free (the_p 6) (block 1) (at 1) ∷ [])
   pub free_of_outside : Does (of_one (name (codes "free") (at 1)) 5 (gc 6)) (T.free (stop [] (w (codes "char")) (at 6)) (block 0) (at 1) ∷ [])

@@ -3,7 +3,7 @@ use Rattle.std.specs.Prelude.{ℕ, Bool, true, false, ◌&&◌, List, [], ◌∷
 use Rattle.px_base.specs.declared.trace.Site.{Site}
 use Rattle.px_terms.specs.declared.types.ValueType.TheVariants as V
 use Rattle.px_syntax.specs.TypedTree as T
-use Rattle.px_syntax.specs.TypedTree.{Expression, Expressions}
+use Rattle.px_syntax.specs.TypedTree.{Expression, Argument, Arguments}
 use Rattle.px_real_types.specs.declared.shape.ProfileType.{ProfileType}
 use Rattle.px_real_values.specs.declared.environment.Library.{Library}
 use Rattle.px_real_values.specs.declared.environment.Library.TheVariants as L
@@ -17,12 +17,6 @@ pub record Given : Type 0 where
   pub first : Site
   pub operand : Operand
 
--- arguments as they are evaluated: the values that are passed, and among them what has an effect and isn't passed; whether there is none of
--- that
-pub record Evaluated : Type 0 where
-  pub all : List Expression
-  pub all_passed : Bool
-
 -- whether there are as many arguments as parameters, or more where it takes more
 abbrev pub fits : List (Option ProfileType) → Bool → List Given → Bool
 fits [] more [] = true
@@ -30,50 +24,30 @@ fits [] more (x ∷ xs) = more
 fits (p ∷ ps) more [] = false
 fits (p ∷ ps) more (x ∷ xs) = fits ps more xs
 
--- what has no effect, where its value isn't read
-abbrev pub is_silent : Expression → Bool
-is_silent (T.constant z) = true
-is_silent T.null = true
-is_silent (T.local n site) = true
-is_silent _ = false
-
-abbrev pub are_silent : List Expression → Bool
-are_silent [] = true
-are_silent (e ∷ es) = is_silent e && are_silent es
-
 -- ---- arguments in order
-
--- a value that is passed, before others
-abbrev pub with_passed : Expression → Evaluated → Evaluated
-with_passed e rest = record { all = e ∷ rest.all; all_passed = rest.all_passed }
-
--- what isn't passed; without an effect it is nothing
-abbrev pub with_erased : List Expression → Evaluated → Evaluated
-with_erased ps rest = if are_silent ps then rest else record { all = ps ++ rest.all; all_passed = false }
 
 module _ (env : Environment) where
   abbrev pub all_parts : List Given → List Expression
   all_parts xs = flat_map (λ x. parts env x.operand) xs
 
   -- the argument of a parameter, which is erased where that isn't of the profile
-  abbrev pub argument : Option ProfileType → Given → Evaluated → Evaluated
-  argument (Some t) x rest = with_passed (needed env x.first t x.operand) rest
-  argument None x rest = with_erased (parts env x.operand) rest
+  abbrev pub argument : Option ProfileType → Given → Argument
+  argument (Some t) x = T.passed (needed env x.first t x.operand)
+  argument None x = T.erased (T.expressions_of (parts env x.operand))
 
   -- those beyond the parameters are erased
-  abbrev pub arguments : List (Option ProfileType) → List Given → Evaluated
-  arguments ps [] = record { all = []; all_passed = true }
-  arguments [] (x ∷ xs) = argument None x (arguments [] xs)
-  arguments (p ∷ ps) (x ∷ xs) = argument p x (arguments ps xs)
+  abbrev pub arguments : List (Option ProfileType) → List Given → List Argument
+  arguments ps [] = []
+  arguments [] (x ∷ xs) = argument None x ∷ arguments [] xs
+  arguments (p ∷ ps) (x ∷ xs) = argument p x ∷ arguments ps xs
 
   -- what a call gives: a value, or outside where the result isn't of the profile
-  abbrev pub gives : Signature → Site → Expressions → Option ProfileType → Operand
-  gives s at es (Some t) = of_type t at (T.call s.proc es (value_type env t) at)
-  gives s at es None = outside_of env (codes "call") at (T.call s.proc es V.Int at ∷ [])
+  abbrev pub gives : Signature → Site → Arguments → Option ProfileType → Operand
+  gives s at xs (Some t) = of_type t at (T.call s.proc xs (value_type env t) at)
+  gives s at xs None = outside_of env (codes "call") at (T.call s.proc xs V.Int at ∷ [])
 
-  -- a call with these arguments; a typed tree has no place for the effect of one that isn't passed, so that there it is a `Stop`
-  abbrev pub called : Signature → Site → Evaluated → Operand
-  called s at xs = if xs.all_passed then gives s at (T.expressions_of xs.all) s.result else stopped_at env (codes "call") at xs.all
+  abbrev pub called : Signature → Site → List Argument → Operand
+  called s at xs = gives s at (T.arguments_of xs) s.result
 
   abbrev pub function_call : Signature → Site → List Given → Operand
   function_call s at xs = if fits s.parameters s.takes_more xs then called s at (arguments s.parameters xs) else stopped_at env (codes "call") at (all_parts xs)

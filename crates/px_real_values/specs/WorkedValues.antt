@@ -283,11 +283,11 @@ pub record Calls : Type 0 where
   pub an_input : Is (getchar 1) (of_type int (at 1) (T.get_char (at 1)))
   pub expected : Is (of_two (name (codes "expect") (at 1)) 7 (x 8) (number 0 11)) (of_type int (at 8) (the_x 8))
   -- `f(x, gc)`: the second argument is erased
-  pub a_call : Is (of_two (name (codes "f") (at 1)) 2 (x 3) (gc 6)) (of_type int (at 1) (T.call (record { 0 = 7 }) (T.an_expression (the_x 3) T.no_expressions) V.Int (at 1)))
+  pub a_call : Is (of_two (name (codes "f") (at 1)) 2 (x 3) (gc 6)) (of_type int (at 1) (T.call (record { 0 = 7 }) (T.an_argument (T.passed (the_x 3)) (T.an_argument (T.erased T.no_expressions) T.no_arguments)) V.Int (at 1)))
   -- `f(gc, gc)`: the first one is needed
-  pub needed_argument : Is (of_two (name (codes "f") (at 1)) 2 (gc 3) (gc 7)) (of_type int (at 1) (T.call (record { 0 = 7 }) (T.an_expression (stop [] (w (codes "char")) (at 3)) T.no_expressions) V.Int (at 1)))
+  pub needed_argument : Is (of_two (name (codes "f") (at 1)) 2 (gc 3) (gc 7)) (of_type int (at 1) (T.call (record { 0 = 7 }) (T.an_argument (T.passed (stop [] (w (codes "char")) (at 3))) (T.an_argument (T.erased T.no_expressions) T.no_arguments)) V.Int (at 1)))
   -- `h(gc)` has no result of the profile
-  pub no_result : Is (of_one (name (codes "h") (at 1)) 2 (gc 3)) (outside unknown (T.call (record { 0 = 8 }) T.no_expressions V.Int (at 1) ∷ []) (w (codes "call")) (at 1))
+  pub no_result : Is (of_one (name (codes "h") (at 1)) 2 (gc 3)) (outside unknown (T.call (record { 0 = 8 }) (T.an_argument (T.erased T.no_expressions) T.no_arguments) V.Int (at 1) ∷ []) (w (codes "call")) (at 1))
   -- `h(getchar())`: the effect of what isn't passed has no place in a typed tree
   pub an_effect : Is (of_one (name (codes "h") (at 1)) 2 (getchar 3)) (stopped (T.get_char (at 3) ∷ []) (w (codes "call")) (at 1))
   -- `f(x)`, of another number, `y(getchar())`, of no declared name, `gc(x)` and `gc.v(x)`, of anything else

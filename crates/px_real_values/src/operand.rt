@@ -212,7 +212,7 @@ pub fn reached(
 }
 
 // The last of the cells after a pointer, or the pointer where there is none.
-fn last_cell(
+pub fn last_cell(
     pointer: Box<TypedExpression>,
     mut before: Vec<CellLink>,
 ) -> TypedExpression

@@ -12,7 +12,7 @@ ghost use Rattle.px_real_values.specs.Operands as Operands;
 ghost use Rattle.px_real_values.specs.Calls as Calls;
 ghost use Rattle.px_real_values.specs.Views.{operand_seen, signature_seen};
 
-use crate::calls::{fits, give, gives};
+use crate::calls::{argument, fits, gives};
 use crate::casts::cast_as;
 use crate::environment::{Callee, Environment, Library, Meaning, Signature};
 use crate::known::Known;
@@ -33,7 +33,7 @@ use std::alloc::Global;
 // The first token of an expression.
 #[cycle(first_site)]
 #[tactic(auto, using(px_real_reading::proofs::TreeEquations::trees, crate::proofs::SiteLemmas::chains))]
-fn first_site(expression: &Expression) -> Site
+pub fn first_site(expression: &Expression) -> Site
     ensures { (all : List Lexeme) → result ≡ Rules.first_site (expression_tree all expression.now) }
 {
     match expression {
@@ -352,7 +352,7 @@ fn cast<'a, E: Environment>(
 
 // An operand with these suffixes after it.
 #[cycle(operand)]
-fn suffixes<'a, E: Environment>(
+pub fn suffixes<'a, E: Environment>(
     alloc: Global,
     environment: &'a E,
     suffixes: &[Suffix],
@@ -371,7 +371,7 @@ fn suffixes<'a, E: Environment>(
 // An operand with a suffix after it.
 #[cycle(operand)]
 #[tactic(auto, using(px_real_reading::proofs::TreeEquations::trees))]
-fn suffix<'a, E: Environment>(
+pub fn suffix<'a, E: Environment>(
     alloc: Global,
     environment: &'a E,
     suffix: &Suffix,
@@ -494,7 +494,7 @@ fn call_of<'a, E: Environment>(
 
 // A call that isn't understood, behind these parts and its arguments.
 #[cycle(operand)]
-fn no_call<'a, E: Environment>(
+pub fn no_call<'a, E: Environment>(
     alloc: Global,
     environment: &'a E,
     text: &[u8],
@@ -513,7 +513,7 @@ fn no_call<'a, E: Environment>(
     Ok(stopped_at(environment, text, at, all))
 }
 
-// A call of a function. What isn't passed and has an effect has no place in the tree of a call.
+// A call of a function.
 #[cycle(operand)]
 fn function_call<'a, E: Environment>(
     alloc: Global,
@@ -529,18 +529,13 @@ fn function_call<'a, E: Environment>(
         return no_call(alloc, environment, text, at, arguments, Vec::new(alloc));
     }
     let mut all = Vec::with_capacity(alloc, arguments.len())?;
-    let mut all_passed = true;
     for i in 0..arguments.len() {
         let given = evaluate(alloc, environment, &arguments[i])?;
         let first = first_site(&arguments[i]);
         let kind = parameter(signature, i);
-        all_passed = give(alloc, environment, kind, first, given, &mut all, all_passed)?;
+        all.push(argument(alloc, environment, kind, first, given)?)?;
     }
-    if all_passed {
-        gives(alloc, environment, signature, at, all)
-    } else {
-        Ok(stopped_at(environment, text, at, all))
-    }
+    gives(alloc, environment, signature, at, all)
 }
 
 // The type of a parameter of the profile; others, and what there is beyond them, are erased.
