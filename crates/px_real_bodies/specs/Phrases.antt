@@ -27,8 +27,11 @@ named_by types t k = k
 abbrev pub tabled : Types → Lexeme → Lexeme
 tabled types t = record t { terminal = named_by types t t.terminal }
 
+abbrev pub all_tabled : Scopes → List Lexeme → List Lexeme
+all_tabled st ts = map (tabled (are_types st.bindings)) ts
+
 abbrev pub expression_in : Scopes → List Lexeme → Option ExpressionTree
-expression_in st ts = as_whole (expression_at nesting_limit (map (tabled (are_types st.bindings)) ts))
+expression_in st ts = as_whole (expression_at nesting_limit (all_tabled st ts))
 
 -- ---- a declaration or an expression
 

@@ -1,5 +1,5 @@
 -- What the statements of a body do, one case for each kind (6.8).
-use Rattle.std.specs.Prelude.{ℕ, List, [], ◌∷◌, ◌++◌, Bool, true, false, ◌&&◌, ◌||◌, not, Option, Some, None, codes, if◌then◌else◌}
+use Rattle.std.specs.Prelude.{◌≡◌, ℕ, List, [], ◌∷◌, ◌++◌, Bool, true, false, ◌&&◌, ◌||◌, not, Option, Some, None, codes, if◌then◌else◌}
 use Rattle.px_base.specs.declared.trace.Site.{Site}
 use Rattle.px_syntax.specs.TypedTree as T
 use Rattle.px_syntax.specs.TypedTree.{Expression, Statement}
@@ -70,6 +70,10 @@ module _ (f : Function) where
   -- a scope ends
   abbrev pub ended : Walk → Walk
   ended w = record { trees = w.trees; after = outside_of_it w.after }
+
+  -- the block of what was walked in a scope of its own, and the place behind it
+  abbrev pub IsScoped : Walk → Statement → Place → Type 0
+  IsScoped w s at = (s ≡ block_of w) × (at ≡ outside_of_it w.after)
 
   abbrev pub no_statement : Statement
   no_statement = T.block T.no_statements

@@ -246,12 +246,12 @@ pub fn perform<E: Environment>(
     ensures { OnOk result (map typed_statement into.new.items ≡ map typed_statement into.old.items ++ Rules.performed (E.sees environment.now) (expression_tree (E.tokens environment.now) expression.now)) }
 {
     match expression {
-        Expression::Parenthesised { inner, .. }
-        | Expression::Prefixed {
+        Expression::Parenthesised { inner, .. } => perform(alloc, environment, inner, into),
+        Expression::Prefixed {
             operator: Prefix::Extension,
-            operand: inner,
+            operand,
             ..
-        } => perform(alloc, environment, inner, into),
+        } => perform(alloc, environment, operand, into),
         Expression::Prefixed {
             operator: Prefix::Increment,
             site,
