@@ -1,1 +1,7 @@
+pub mod TabledLemmas
+pub mod HeldLemmas
+pub mod SpelledLemmas
+pub mod ListLemmas
+pub mod StorageLemmas
+pub mod WalkLemmas
 pub mod WorkedByReading

@@ -90,9 +90,8 @@ pub fn first_switch_label(labels: &[Label]) -> Option<SwitchLabel>
     ensures { (all : List Lexeme) → option_map (λ l. (l.word.now, l.site)) result ≡ Rules.label_stop (map (label_tree all) labels.now) }
 {
     for label in labels {
-        let found = switch_label(label);
-        if found.is_some() {
-            return found;
+        if let Some(found) = switch_label(label) {
+            return Some(found);
         }
     }
     None

@@ -64,9 +64,8 @@ fn groups_clean_up(on: Texts, groups: &[Group]) -> Option<Site>
     ensures { result ≡ Rules.cleanup_of (map (group_tree (texts on.entry)) groups.now) }
 {
     for group in groups {
-        let site = cleanup_in(within(on, group.held));
-        if site.is_some() {
-            return site;
+        if let Some(site) = cleanup_in(within(on, group.held)) {
+            return Some(site);
         }
     }
     None
@@ -87,9 +86,8 @@ fn specifiers_clean_up(on: Texts, specifiers: &[Specifier]) -> Option<Site>
     ensures { result ≡ Rules.cleanup_of (Rules.groups_in (map (specifier_tree (texts on.entry)) specifiers.now)) }
 {
     for specifier in specifiers {
-        let site = specifier_cleans_up(on, specifier);
-        if site.is_some() {
-            return site;
+        if let Some(site) = specifier_cleans_up(on, specifier) {
+            return Some(site);
         }
     }
     None
@@ -99,13 +97,11 @@ fn specifiers_clean_up(on: Texts, specifiers: &[Specifier]) -> Option<Site>
 pub fn cleanup_of(on: Texts, specifiers: &[Specifier], declared: &Declared) -> Option<Site>
     ensures { result ≡ Rules.cleanup_of (Rules.groups_in (map (specifier_tree (texts on.entry)) specifiers.now) ++ (declared_tree (texts on.entry) declared.now).before ++ (declared_tree (texts on.entry) declared.now).after) }
 {
-    let site = specifiers_clean_up(on, specifiers);
-    if site.is_some() {
-        return site;
+    if let Some(site) = specifiers_clean_up(on, specifiers) {
+        return Some(site);
     }
-    let site = groups_clean_up(on, &declared.before);
-    if site.is_some() {
-        return site;
+    if let Some(site) = groups_clean_up(on, &declared.before) {
+        return Some(site);
     }
     groups_clean_up(on, &declared.after)
 }

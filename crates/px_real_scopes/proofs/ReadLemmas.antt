@@ -16,7 +16,7 @@ use Rattle.px_real_scopes.specs.Steps.{is_memory}
 use Rattle.px_real_names.proofs.EnumeratedExact.{whole_of}
 
 -- what is nothing of the grammar isn't read
-unread : {A : Type 0} (r : Read A) → ((a : A) → as_whole r ≡ Some a → ⊥) → as_whole r ≡ None
+pub unread : {A : Type 0} (r : Read A) → ((a : A) → as_whole r ≡ Some a → ⊥) → as_whole r ≡ None
 unread r none = by (as_whole r) refl
   where
     by : (o : Option _) → as_whole r ≡ o → o ≡ None
