@@ -1,5 +1,6 @@
 -- What is walked one after the other.
-use Rattle.std.proofs.Common.{◌≡◌, ◌∙◌, refl, sym, ap, List, [], ◌∷◌, ◌++◌, append_assoc, append-nil}
+use Rattle.std.proofs.Common.{◌≡◌, ◌∙◌, refl, sym, ap, subst, List, [], ◌∷◌, ◌++◌, Option, Some, None, Result, Ok, Err, OnOk, append_assoc, append-nil}
+use Rattle.px_expressions.specs.Reading.{or_else}
 use Rattle.px_syntax.specs.TypedTree.{Statement}
 use Rattle.px_real_bodies.specs.Places.{Place, Walk, Walked, without_statements}
 
@@ -17,3 +18,19 @@ walked_none before at = (sym (append-nil before), refl)
 -- statements more before what is walked
 pub walked_behind : (ss : List Statement) (w : Walk) (before mid after : List Statement) (at : Place) → mid ≡ before ++ ss → Walked w mid after at → Walked (record { trees = ss ++ w.trees; after = w.after }) before after at
 walked_behind ss w before mid after at h g = (g.0 ∙ ap (λ z. z ++ w.trees) h ∙ append_assoc before ss w.trees, g.1)
+
+-- ---- by what a call of the code answers
+
+pub walks : {E : Type 0} (r : Result Unit E) (ss old new : List Statement) (at : Place) → OnOk r (new ≡ old ++ ss) → OnOk r (Walked (record { trees = ss; after = at }) old new at)
+walks (Ok u) ss old new at h = (h, refl)
+walks (Err e) ss old new at h = h
+
+pub walks_as : {E : Type 0} (r : Result Unit E) (w v : Walk) (old new : List Statement) (at : Place) → w ≡ v → OnOk r (Walked w old new at) → OnOk r (Walked v old new at)
+walks_as r w v old new at e h = subst (λ z. OnOk r (Walked z old new at)) e h
+
+-- what follows where something is read, and where nothing is
+pub read_as : {A B : Type 0} (o : Option A) (f : A → B) (d : B) (a : A) → Some a ≡ o → f a ≡ or_else o f d
+read_as o f d a h = ap (λ z. or_else z f d) h
+
+pub unread_as : {A B : Type 0} (o : Option A) (f : A → B) (d : B) → None ≡ o → d ≡ or_else o f d
+unread_as o f d h = ap (λ z. or_else z f d) h

@@ -8,6 +8,8 @@ use Rattle.px_real_expressions.specs.declared.terminal.Terminal.TheVariants as T
 use Rattle.px_real_expressions.specs.Lexemes.{Lexeme}
 use Rattle.px_real_expressions.specs.ExpressionTree.{ExpressionTree}
 use Rattle.px_real_expressions.specs.Reading.{expression_at}
+use Rattle.px_real_reading.specs.declared.reading.ExpressionFault.{ExpressionFault}
+use Rattle.px_real_reading.specs.declared.reading.ExpressionFault.TheVariants as E
 use Rattle.px_real_declarations.specs.Roles.{assembler_words}
 use Rattle.px_real_declarations.specs.Grammar.{Types}
 use Rattle.px_real_declarations.specs.DeclarationTree.{SpecifierTree, keyword, type_name, group, tagged, DeclarationTree, declaration, assertion}
@@ -65,3 +67,9 @@ first_place site (t ∷ ts) = t.site
 -- where no token tells
 abbrev pub no_place : Site
 no_place = record { file = 0; line = 0; column = 0 }
+
+-- what keeps the code from an answer
+abbrev pub is_out_of_memory : ExpressionFault → Bool
+is_out_of_memory E.NoMemory = true
+is_out_of_memory (E.NotAnExpression at) = false
+is_out_of_memory (E.Deep at) = false

@@ -10,12 +10,21 @@ ghost use Rattle.px_real_bodies.specs.Phrases.{all_tabled};
 
 use px_base::Site;
 use px_expressions::text;
-use px_real_declaring::{Declaration, DeclarationFault, Specifier, declaration_of};
+use px_real_declaring::{Declaration, Specifier, declaration_of};
 use px_real_reading::{Expression, ExpressionFault, expression_of};
-use px_real_scopes::Scopes;
+use px_real_scopes::{Scopes, is_memory};
 use px_real_types::Texts;
 use px_terms::NoMemory;
 use std::alloc::Global;
+
+fn is_out_of_memory(fault: ExpressionFault) -> bool
+    ensures { result ≡ Rules.is_out_of_memory fault }
+{
+    match fault {
+        ExpressionFault::NoMemory => true,
+        ExpressionFault::NotAnExpression(_) | ExpressionFault::Deep(_) => false,
+    }
+}
 
 /// The expression that these tokens are, if they are one.
 pub fn expression_in(
@@ -27,9 +36,13 @@ pub fn expression_in(
 {
     match expression_of(alloc, on.source, on.tokens, scopes) {
         Ok(tree) => Ok(Some(tree)),
-        Err(ExpressionFault::NotAnExpression(_)) => Ok(None),
-        Err(ExpressionFault::Deep(_)) => Ok(None),
-        Err(ExpressionFault::NoMemory) => Err(NoMemory),
+        Err(fault) => {
+            if is_out_of_memory(fault) {
+                Err(NoMemory)
+            } else {
+                Ok(None)
+            }
+        }
     }
 }
 
@@ -81,9 +94,13 @@ pub fn declaration_in(
                 Ok(None)
             }
         }
-        Err(DeclarationFault::NotADeclaration(_)) => Ok(None),
-        Err(DeclarationFault::Deep(_)) => Ok(None),
-        Err(DeclarationFault::NoMemory) => Err(NoMemory),
+        Err(fault) => {
+            if is_memory(fault) {
+                Err(NoMemory)
+            } else {
+                Ok(None)
+            }
+        }
     }
 }
 

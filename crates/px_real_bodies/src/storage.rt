@@ -51,7 +51,8 @@ fn is_cleanup_word(word: &[u8]) -> bool
 fn cleanup_in(on: Texts) -> Option<Site>
     ensures { result ≡ Rules.cleanup_in (texts on.entry) }
 {
-    for token in on.tokens {
+    let tokens = on.tokens;
+    for token in tokens {
         if is_cleanup_word(text(on.source, token.start, token.end)) {
             return Some(token.site);
         }

@@ -235,7 +235,7 @@ fn put_value<E: Environment>(
 }
 
 /// What an expression does as a statement.
-#[cycle(performed)]
+#[cycle(perform)]
 #[tactic(auto, using(px_real_reading::proofs::TreeEquations::trees))]
 pub fn perform<E: Environment>(
     alloc: Global,
