@@ -42,6 +42,8 @@ suffix_varying env e (a_member s f) = refl
 suffix_varying env e (a_pointer_member s f) = refl
 suffix_varying env e (a_step o s) = refl
 
+pub ruleset constants = (chain_constant, suffix_varying)
+
 -- ---- lengths
 
 abbrev pub lengths_of : List Lexeme → List Suffix → List (Site × List Lexeme)

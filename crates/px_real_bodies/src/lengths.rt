@@ -32,7 +32,7 @@ fn is_enumerator(meaning: Meaning) -> bool
 
 // Whether it is a constant expression, as far as its names and operators tell.
 #[cycle(constant)]
-#[tactic(auto, using(px_real_reading::proofs::TreeEquations::trees))]
+#[tactic(auto, using(px_real_reading::proofs::TreeEquations::trees, crate::proofs::LengthLemmas::constants))]
 fn is_constant<E: Environment>(environment: &E, expression: &Expression) -> bool
     ensures { result ≡ Rules.is_constant (E.sees environment.now) (expression_tree (E.tokens environment.now) expression.now) }
 {
@@ -131,6 +131,7 @@ fn suffix_varies<F: Function>(
 
 /// The first bracket of a declarator whose length isn't constant.
 #[cycle(varies)]
+#[tactic(auto, using(px_real_declaring::proofs::DeclaratorEquations::trees))]
 pub fn varies<F: Function>(
     alloc: Global,
     function: &F,
@@ -145,7 +146,8 @@ pub fn varies<F: Function>(
         Declarator::Inner { inner, .. } => varies(alloc, function, scopes, on, inner),
         Declarator::Pointer { target, .. } => varies(alloc, function, scopes, on, target),
         Declarator::Suffixed { core, suffixes } => {
-            match varies(alloc, function, scopes, on, core)? {
+            let first = varies(alloc, function, scopes, on, core)?;
+            match first {
                 Some(site) => Ok(Some(site)),
                 None => suffix_varies(alloc, function, scopes, on, suffixes),
             }
