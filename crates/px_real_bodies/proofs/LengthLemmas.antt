@@ -22,17 +22,17 @@ abbrev pub all_constant : Environment → List LinkTree → Bool
 all_constant env [] = true
 all_constant env (l ∷ ls) = is_constant env l.operand && all_constant env ls
 
-and_assoc : (a b c : Bool) → ((a && b) && c) ≡ (a && (b && c))
-and_assoc true b c = refl
-and_assoc false b c = refl
-
 and_true : (a : Bool) → a ≡ (a && true)
 and_true true = refl
 and_true false = refl
 
 pub chain_constant : (env : Environment) (e : ExpressionTree) (ls : List LinkTree) → is_constant env (chained e ls) ≡ (is_constant env e && all_constant env ls)
 chain_constant env e [] = and_true (is_constant env e)
-chain_constant env e (l ∷ ls) = chain_constant env (binary l.operator l.site e l.operand) ls ∙ and_assoc (is_constant env e) (is_constant env l.operand) (all_constant env ls)
+chain_constant env e (l ∷ ls) = chain_constant env (binary l.operator l.site e l.operand) ls ∙ by (is_constant env e)
+  where
+    by : (a : Bool) → ((a && is_constant env l.operand) && all_constant env ls) ≡ (a && (is_constant env l.operand && all_constant env ls))
+    by true = refl
+    by false = refl
 
 -- what ends in a suffix is none
 pub suffix_varying : (env : Environment) (e : ExpressionTree) (s : SuffixTree) → is_constant env (suffixed e s) ≡ false

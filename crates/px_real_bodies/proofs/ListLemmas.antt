@@ -1,5 +1,5 @@
 -- What is looked for in a list, from its front on.
-use Rattle.std.proofs.Common.{◌≡◌, ◌∙◌, refl, sym, ap, ℕ, zero, suc, ◌+◌, ◌-◌, ◌<◌, ◌≤◌, Bool, true, false, ◌&&◌, ◌||◌, List, [], ◌∷◌, ◌++◌, map, length, take, drop, get_or, Option, Some, None, is_some, nat_eq, arith, append_assoc}
+use Rattle.std.proofs.Common.{◌≡◌, ◌∙◌, refl, sym, ap, ℕ, zero, suc, ◌+◌, ◌-◌, ◌<◌, ◌≤◌, Bool, true, false, ◌&&◌, List, [], ◌∷◌, ◌++◌, map, length, take, drop, get_or, Option, Some, None, is_some, nat_eq, arith, append_assoc}
 use Rattle.std.specs.Prelude.{if◌then◌else◌}
 use Rattle.std.proofs.lemmas.List.{drop_more, drop_all}
 use Rattle.px_expressions.specs.Reading.{or_else}
@@ -17,29 +17,6 @@ module _ {A B C : Type 0} (view : A → B) (f : List B → C) (xs : List A) (i :
   -- nothing is left
   pub look_ends : length xs ≤ i → f [] ≡ all
   look_ends le = sym (ap (λ z. f (map view z)) (drop_all i xs le)) ∙ so_far
-
-pub or_skips : (b c : Bool) → b ≡ false → (b || c) ≡ c
-or_skips true c h = absurd cc
-or_skips false c h = refl
-
-pub or_holds : (b c : Bool) → b ≡ true → (b || c) ≡ true
-or_holds true c h = refl
-or_holds false c h = absurd cc
-
-pub and_skips : (b c : Bool) → b ≡ true → (b && c) ≡ c
-and_skips true c h = refl
-and_skips false c h = absurd cc
-
-pub and_fails : (b c : Bool) → b ≡ false → (b && c) ≡ false
-and_fails true c h = absurd cc
-and_fails false c h = refl
-
--- the first that is found
-pub found_first : {A B : Type 0} (o : Option A) (f : A → B) (d : B) (a : A) → o ≡ Some a → or_else o f d ≡ f a
-found_first o f d a h = ap (λ z. or_else z f d) h
-
-pub found_later : {A B : Type 0} (o : Option A) (f : A → B) (d : B) → o ≡ None → or_else o f d ≡ d
-found_later o f d h = ap (λ z. or_else z f d) h
 
 -- ---- brackets
 

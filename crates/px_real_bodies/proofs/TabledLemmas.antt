@@ -1,6 +1,7 @@
 -- Tokens as expressions see them, and as declarations see them: they differ in names of types alone.
 use Rattle.std.proofs.Common.{◌≡◌, ◌∙◌, refl, sym, ap, ℕ, List, [], ◌∷◌, map, Bool, true, false, ◌&&◌, Option, Some, None}
 use Rattle.std.specs.Prelude.{if◌then◌else◌}
+use Rattle.std.proofs.lemmas.Bool.{and_parts}
 use Rattle.std.specs.Str.{bytes_eq}
 use Rattle.px_lexer.specs.declared.token.Punctuator.{Punctuator}
 use Rattle.px_lexer.specs.declared.token.Punctuator.TheVariants as P
@@ -37,14 +38,10 @@ abbrev are_fixed : List (List ℕ × Terminal) → Bool
 are_fixed [] = true
 are_fixed (k ∷ ks) = is_fixed k.1 && are_fixed ks
 
-both_true : (a b : Bool) → (a && b) ≡ true → (a ≡ true) × (b ≡ true)
-both_true true b h = (refl, h)
-both_true false b h = absurd cc
-
 no_name_in : (ks : List (List ℕ × Terminal)) (word : List ℕ) → are_fixed ks ≡ true → is_no_name (keyword_in ks word) ≡ true
 no_name_in [] word h = refl
 no_name_in (k ∷ ks) word h =
-    let b = both_true (is_fixed k.1) (are_fixed ks) h in no_name_if (bytes_eq word k.0) k.1 (keyword_in ks word) b.0 (no_name_in ks word b.1)
+    let b = and_parts (is_fixed k.1) (are_fixed ks) h in no_name_if (bytes_eq word k.0) k.1 (keyword_in ks word) b.0 (no_name_in ks word b.1)
 
 no_name_either : (o q : Option Terminal) → is_no_name o ≡ true → is_no_name q ≡ true → is_no_name (either_of o q) ≡ true
 no_name_either (Some k) q h g = h

@@ -1,6 +1,5 @@
 -- What is walked one after the other.
-use Rattle.std.proofs.Common.{◌≡◌, ◌∙◌, refl, sym, ap, subst, List, [], ◌∷◌, ◌++◌, Option, Some, None, Result, Ok, Err, OnOk, append_assoc, append-nil}
-use Rattle.px_expressions.specs.Reading.{or_else}
+use Rattle.std.proofs.Common.{◌≡◌, ◌∙◌, refl, sym, ap, subst, List, [], ◌∷◌, ◌++◌, Result, Ok, Err, OnOk, append_assoc, append-nil}
 use Rattle.px_syntax.specs.TypedTree.{Statement}
 use Rattle.px_real_bodies.specs.Places.{Place, Walk, Walked, without_statements}
 
@@ -27,10 +26,3 @@ walks (Err e) ss old new at h = h
 
 pub walks_as : {E : Type 0} (r : Result Unit E) (w v : Walk) (old new : List Statement) (at : Place) → w ≡ v → OnOk r (Walked w old new at) → OnOk r (Walked v old new at)
 walks_as r w v old new at e h = subst (λ z. OnOk r (Walked z old new at)) e h
-
--- what follows where something is read, and where nothing is
-pub read_as : {A B : Type 0} (o : Option A) (f : A → B) (d : B) (a : A) → Some a ≡ o → f a ≡ or_else o f d
-read_as o f d a h = ap (λ z. or_else z f d) h
-
-pub unread_as : {A B : Type 0} (o : Option A) (f : A → B) (d : B) → None ≡ o → d ≡ or_else o f d
-unread_as o f d h = ap (λ z. or_else z f d) h
