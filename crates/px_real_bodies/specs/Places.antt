@@ -46,6 +46,10 @@ pub record Walk : Type 0 where
 abbrev pub without_statements : Place → Walk
 without_statements at = record { trees = []; after = at }
 
--- so many statements more were walked, and this is the place behind them
+-- behind these statements
+abbrev pub behind : List Statement → Walk → Walk
+behind before w = record { trees = before ++ w.trees; after = w.after }
+
+-- with this walked behind those statements there are these, and this is the place behind them
 abbrev pub Walked : Walk → List Statement → List Statement → Place → Type 0
-Walked w before after at = (after ≡ before ++ w.trees) × (at ≡ w.after)
+Walked w before trees at = record { trees = trees; after = at } ≡ behind before w

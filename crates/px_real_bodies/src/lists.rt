@@ -1,5 +1,5 @@
-ghost use Rattle.std.specs.Prelude.{◌≡◌, ◌+◌, ◌<◌, ◌^◌, drop, map, option_map, IfOk};
-ghost use Rattle.px_real_expressions.specs.Lexemes.{Lexeme};
+ghost use Rattle.std.specs.Prelude.{◌≡◌, ◌+◌, ◌<◌, ◌^◌, ◌&&◌, nat_eq, drop, map, option_map, IfOk};
+ghost use Rattle.px_real_expressions.specs.Lexemes.{Lexeme, same};
 ghost use Rattle.px_real_symbols.specs.Symbols.{see};
 ghost use Rattle.px_real_types.specs.Scopes.{texts};
 ghost use Rattle.px_real_bodies.specs.Values as Rules;
@@ -28,6 +28,13 @@ pub fn opened(open: usize, terminal: Terminal) -> usize
     } else {
         open
     }
+}
+
+/// Whether a token of this terminal is such a one outside of brackets.
+pub fn stands_outside(open: usize, terminal: Terminal, wanted: Terminal) -> bool
+    ensures { result ≡ (nat_eq open 0 && same terminal wanted) }
+{
+    open == 0 && terminal == wanted
 }
 
 /// The tokens as the grammar sees them, where no word is the name of a type.
@@ -79,7 +86,7 @@ fn behind_equal<'a>(on: Texts<'a>, symbols: &[Symbol]) -> Texts<'a>
     let mut open: usize = 0;
     for at in 0..symbols.len() {
         let terminal = symbols[at].terminal;
-        if open == 0 && terminal == Terminal::Equal {
+        if stands_outside(open, terminal, Terminal::Equal) {
             return beyond(on, at + 1);
         }
         open = opened(open, terminal);
@@ -113,7 +120,7 @@ fn only_item<'a>(alloc: Global, on: Texts<'a>) -> Result<Texts<'a>, NoMemory>
     let mut open: usize = 0;
     for at in 0..symbols.len() {
         let terminal = symbols[at].terminal;
-        if open == 0 && terminal == Terminal::Comma {
+        if stands_outside(open, terminal, Terminal::Comma) {
             let after = if at + 1 < symbols.len() { 0 } else { at };
             return Ok(within(on, Span { first: 0, after }));
         }

@@ -7,7 +7,7 @@ ghost use Rattle.px_real_bodies.specs.Values as Rules;
 
 use crate::function::Function;
 use crate::here::Here;
-use crate::lists::{listed, opened, terminals, without_designators};
+use crate::lists::{listed, opened, stands_outside, terminals, without_designators};
 use crate::phrases::{expression_in, first_place, unread_word};
 use px_base::Site;
 use px_real_expressions::Terminal;
@@ -136,13 +136,12 @@ fn put_items<F: Function>(
     let mut first: usize = 0;
     for at in 0..symbols.len() {
         let terminal = symbols[at].terminal;
-        if open == 0 && terminal == Terminal::Comma {
+        if stands_outside(open, terminal, Terminal::Comma) {
             let item = within(on, Span { first, after: at });
             put_item(alloc, function, scopes, depth, site, item, into)?;
             first = at + 1;
-        } else {
-            open = opened(open, terminal);
         }
+        open = opened(open, terminal);
     }
     let after = symbols.len();
     let item = within(on, Span { first, after });
