@@ -4,5 +4,6 @@ pub mod SpelledLemmas
 pub mod ListLemmas
 pub mod LengthLemmas
 pub mod StorageLemmas
+pub mod DeclarationLemmas
 pub mod WalkLemmas
 pub mod WorkedByReading

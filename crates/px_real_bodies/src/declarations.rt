@@ -5,6 +5,7 @@ ghost use Rattle.px_real_symbols.specs.Symbols.{held_in};
 ghost use Rattle.px_real_declaring.specs.Trees.{specifier_tree, declared_tree, declaration_tree};
 ghost use Rattle.px_real_types.specs.Scopes.{texts};
 ghost use Rattle.px_expressions.specs.Reading.{or_else};
+ghost use Rattle.px_real_values.specs.Environment.{value_type as kind_of};
 ghost use Rattle.px_real_effects.specs.Effects.{evaluated};
 ghost use Rattle.px_real_scopes.specs.Knowing.{type_word, specified_known};
 ghost use Rattle.px_real_scopes.specs.Views.{meaning_view};
@@ -23,16 +24,16 @@ use crate::place::Place;
 use crate::storage::{cleanup_of, is_stored};
 use crate::values::{put_initialiser_parts, unread_at};
 use px_base::Site;
-use px_real_declaring::{Declaration, DeclarationFault, Declared, Specifier};
+use px_real_declaring::{Declaration, Declared, Specifier};
 use px_real_effects::{put, put_all_evaluated, put_begun, put_begun_with, put_evaluated};
 use px_real_names::enumerated::within;
 use px_real_names::names::is_typedef;
-use px_real_scopes::{Meaning, Scopes, declared_meaning, seen, type_word};
+use px_real_scopes::{Meaning, Scopes, declared_meaning, is_memory, seen, type_word};
 use px_real_symbols::Span;
 use px_real_types::{ProfileType, Texts, declared_name};
 use px_real_values::{Known, stop, value_type};
 use px_syntax::{Name, TypedStatement};
-use px_terms::NoMemory;
+use px_terms::{NoMemory, ValueType};
 use std::alloc::Global;
 
 // How deep lists of initialisers stand within one another.
@@ -165,6 +166,23 @@ fn put_beginning<F: Function>(
     }
 }
 
+// The kind of the values of a type.
+fn kind_of_values<F: Function>(
+    function: &F,
+    scopes: &Scopes,
+    on: Texts,
+    kind: ProfileType,
+) -> ValueType
+    ensures { result ≡ kind_of (env (F.sees function.now) scopes.now) kind }
+{
+    let here = Here {
+        function,
+        scopes,
+        on,
+    };
+    value_type(&here, kind)
+}
+
 // One more local of the profile comes into scope, with the next number.
 fn add_local<F: Function>(
     alloc: Global,
@@ -179,15 +197,12 @@ fn add_local<F: Function>(
     let Some(next) = place.next.checked_add(1) else {
         return Err(NoMemory);
     };
-    let here = Here {
-        function,
-        scopes: &place.scopes,
-        on,
-    };
-    place.locals.push(value_type(&here, kind))?;
+    let number = place.next;
+    let value = kind_of_values(function, &place.scopes, on, kind);
+    place.locals.push(value)?;
     place
         .scopes
-        .add_local(alloc, name.as_slice(), place.next, kind)?;
+        .add_local(alloc, name.as_slice(), number, kind)?;
     place.next = next;
     Ok(())
 }
@@ -396,7 +411,12 @@ pub fn declare<F: Function>(
         .declare_specifiers(alloc, on, alone, specifiers)
     {
         Ok(()) => declare_names(alloc, function, on, specifiers, declared, place, into),
-        Err(DeclarationFault::NoMemory) => Err(NoMemory),
-        Err(_) => put_evaluated(alloc, unread_at(alloc, function, site, on), into),
+        Err(fault) => {
+            if is_memory(fault) {
+                Err(NoMemory)
+            } else {
+                put_evaluated(alloc, unread_at(alloc, function, site, on), into)
+            }
+        }
     }
 }
