@@ -1,106 +1,86 @@
 -- Arguments, one after another.
-use Rattle.std.proofs.Common.{◌≡◌, ◌∙◌, refl, sym, ap, ℕ, zero, suc, ◌+◌, ◌<◌, ◌≤◌, Bool, true, false, ◌&&◌, List, [], ◌∷◌, ◌++◌, map, drop, length, get_or, Option, Some, None, arith, append_assoc, append-nil}
-use Rattle.std.specs.Prelude.{if◌then◌else◌}
+use Rattle.std.proofs.Common.{◌≡◌, ◌∙◌, refl, sym, ap, ℕ, zero, suc, ◌+◌, ◌<◌, ◌≤◌, List, [], ◌∷◌, ◌++◌, map, drop, length, get_or, Option, Some, None, arith, append_assoc, append-nil, length-append}
 use Rattle.std.proofs.lemmas.List.{drop_all, drop_more}
 use Rattle.px_base.specs.declared.trace.Site.{Site}
-use Rattle.px_syntax.specs.TypedTree.{Expression}
+use Rattle.px_syntax.specs.TypedTree.{Expression, Argument}
 use Rattle.px_real_expressions.specs.Lexemes.{Lexeme}
-use Rattle.px_real_expressions.specs.ExpressionTree.{ExpressionTree, expressions_of}
-use Rattle.px_real_reading.specs.declared.tree.Expression.{Expression as Argument}
+use Rattle.px_real_expressions.specs.ExpressionTree.{expressions_of}
+use Rattle.px_real_reading.specs.declared.tree.Expression.{Expression as Tree}
 use Rattle.px_real_reading.specs.Trees.{expression_tree}
 use Rattle.px_real_types.specs.declared.shape.ProfileType.{ProfileType}
 use Rattle.px_real_values.specs.Environment.{Environment}
 use Rattle.px_real_values.specs.Operands.{Operand, parts}
-use Rattle.px_real_values.specs.Calls.{Given, Evaluated, are_silent, with_passed, with_erased, all_parts, argument, arguments}
+use Rattle.px_real_values.specs.Calls.{Given, all_parts, argument, arguments}
 use Rattle.px_real_values.specs.Values.{first_site, valued, given}
-use Rattle.px_real_values.specs.Turns.{behind}
 
--- ---- what was evaluated so far, before others
+-- ---- as they stand in a call
 
-abbrev pub evaluated : List Expression → Bool → Evaluated
-evaluated es b = record { all = es; all_passed = b }
-
-pub behind_passed : (es : List Expression) (b : Bool) (e : Expression) (rest : Evaluated) → behind es b (with_passed e rest) ≡ behind (es ++ e ∷ []) b rest
-behind_passed es b e rest = ap (λ z. evaluated z (b && rest.all_passed)) (sym (append_assoc es (e ∷ []) rest.all))
-
-pub behind_silent : (es : List Expression) (b : Bool) (ps : List Expression) (rest : Evaluated) → are_silent ps ≡ true → behind es b (with_erased ps rest) ≡ behind es b rest
-behind_silent es b ps rest h = ap (λ z. behind es b (if z then rest else evaluated (ps ++ rest.all) false)) h
-
-pub behind_effect : (es : List Expression) (b : Bool) (ps : List Expression) (rest : Evaluated) → are_silent ps ≡ false → behind es b (with_erased ps rest) ≡ behind (es ++ ps) false rest
-behind_effect es true ps rest h =
-    ap (λ z. behind es true (if z then rest else evaluated (ps ++ rest.all) false)) h ∙ ap (λ z. evaluated z false) (sym (append_assoc es ps rest.all))
-behind_effect es false ps rest h =
-    ap (λ z. behind es false (if z then rest else evaluated (ps ++ rest.all) false)) h ∙ ap (λ z. evaluated z false) (sym (append_assoc es ps rest.all))
-
-behind_nothing : (es : List Expression) (b : Bool) → behind es b (evaluated [] true) ≡ evaluated es b
-behind_nothing es true = ap (λ z. evaluated z true) (append-nil es)
-behind_nothing es false = ap (λ z. evaluated z false) (append-nil es)
-
--- ---- of those that are given
+abbrev given_at : Site → Operand → Given
+given_at site a = record { first = site; operand = a }
 
 module _ (env : Environment) (all : List Lexeme) where
-  abbrev pub given_of : List Argument → List Given
+  abbrev pub given_of : List Tree → List Given
   given_of xs = given env (expressions_of (map (expression_tree all) xs))
 
-  abbrev pub given_one : Argument → Given
-  given_one x = record { first = first_site (expression_tree all x); operand = valued env (expression_tree all x) }
+  abbrev given_one : Tree → Given
+  given_one x = given_at (first_site (expression_tree all x)) (valued env (expression_tree all x))
 
   -- the one at i begins what is left
-  given_next : (xs : List Argument) (i : ℕ) (x : Argument) → i < length xs → x ≡ get_or xs i x → given_of (drop i xs) ≡ given_one x ∷ given_of (drop (i + 1) xs)
+  given_next : (xs : List Tree) (i : ℕ) (x : Tree) → i < length xs → x ≡ get_or xs i x → given_of (drop i xs) ≡ given_one x ∷ given_of (drop (i + 1) xs)
   given_next xs i x l is = ap given_of (drop_more xs i x l) ∙ ap (λ z. given_one z ∷ given_of (drop (i + 1) xs)) (sym is)
 
-  given_none : (xs : List Argument) (i : ℕ) → length xs ≤ i → given_of (drop i xs) ≡ []
-  given_none xs i l = ap given_of (drop_all i xs l)
-
-  pub given_length : (xs : List Argument) → length (given_of xs) ≡ length xs
-  given_length [] = refl
-  given_length (x ∷ xs) = ap suc (given_length xs)
-
-  -- ---- their parts
-
-  pub parts_more : (xs : List Argument) (i : ℕ) (x : Argument) (before more after whole : List Expression) → i < length xs → x ≡ get_or xs i x → more ≡ parts env (valued env (expression_tree all x)) → after ≡ before ++ more →
-      before ++ all_parts env (given_of (drop i xs)) ≡ whole → after ++ all_parts env (given_of (drop (i + 1) xs)) ≡ whole
-  parts_more xs i x before more after whole l is m a h =
-      ap (λ z. z ++ all_parts env (given_of (drop (i + 1) xs))) (a ∙ ap (λ z. before ++ z) m)
-      ∙ append_assoc before (parts env (valued env (expression_tree all x))) (all_parts env (given_of (drop (i + 1) xs)))
-      ∙ sym (ap (λ gs. before ++ all_parts env gs) (given_next xs i x l is))
+  pub given_more : (xs : List Tree) (i : ℕ) (x : Tree) (before after whole : List Given) (first : Site) (a : Operand) → i < length xs → x ≡ get_or xs i x → first ≡ first_site (expression_tree all x) → a ≡ valued env (expression_tree all x) →
+      after ≡ before ++ record { first = first; operand = a } ∷ [] → before ++ given_of (drop i xs) ≡ whole → after ++ given_of (drop (i + 1) xs) ≡ whole
+  given_more xs i x before after whole first a l is site value one h =
+      let this : given_at first a ≡ given_one x = ap (λ z. given_at z a) site ∙ ap (given_at (first_site (expression_tree all x))) value in
+      ap (λ z. z ++ given_of (drop (i + 1) xs)) (one ∙ ap (λ z. before ++ z ∷ []) this)
+      ∙ append_assoc before (given_one x ∷ []) (given_of (drop (i + 1) xs))
+      ∙ sym (ap (λ z. before ++ z) (given_next xs i x l is))
       ∙ h
 
-  pub parts_end : (xs : List Argument) (i : ℕ) (before whole : List Expression) → length xs ≤ i → before ++ all_parts env (given_of (drop i xs)) ≡ whole → before ≡ whole
-  parts_end xs i before whole l h = sym (append-nil before) ∙ sym (ap (λ gs. before ++ all_parts env gs) (given_none xs i l)) ∙ h
+  pub given_end : (xs : List Tree) (i : ℕ) (before whole : List Given) → length xs ≤ i → before ++ given_of (drop i xs) ≡ whole → before ≡ whole
+  given_end xs i before whole l h = sym (append-nil before) ∙ sym (ap (λ z. before ++ z) (ap given_of (drop_all i xs l))) ∙ h
+
+-- ---- as they are evaluated
+
+module _ (env : Environment) where
+  pub parts_more : (before more after whole : List Expression) (x : Given) (xs ys : List Given) → xs ≡ x ∷ ys → more ≡ parts env x.operand → after ≡ before ++ more →
+      before ++ all_parts env xs ≡ whole → after ++ all_parts env ys ≡ whole
+  parts_more before more after whole x xs ys is m a h =
+      ap (λ z. z ++ all_parts env ys) (a ∙ ap (λ z. before ++ z) m)
+      ∙ append_assoc before (parts env x.operand) (all_parts env ys)
+      ∙ sym (ap (λ z. before ++ all_parts env z) is)
+      ∙ h
+
+  pub parts_end : (before whole : List Expression) (xs : List Given) → xs ≡ [] → before ++ all_parts env xs ≡ whole → before ≡ whole
+  parts_end before whole xs is h = sym (append-nil before) ∙ sym (ap (λ z. before ++ all_parts env z) is) ∙ h
 
   -- ---- and their parameters
 
-  one_argument : (ps : List (Option ProfileType)) (i : ℕ) (x : Given) (xs : List Given) → arguments env (drop i ps) (x ∷ xs) ≡ argument env (get_or ps i None) x (arguments env (drop (suc i) ps) xs)
+  one_argument : (ps : List (Option ProfileType)) (i : ℕ) (x : Given) (xs : List Given) → arguments env (drop i ps) (x ∷ xs) ≡ argument env (get_or ps i None) x ∷ arguments env (drop (suc i) ps) xs
   one_argument [] zero x xs = refl
   one_argument [] (suc i) x xs = refl
   one_argument (p ∷ ps) zero x xs = refl
   one_argument (p ∷ ps) (suc i) x xs = one_argument ps i x xs
 
-  module _ (ps : List (Option ProfileType)) (xs : List Argument) (i : ℕ) (x : Argument) (l : i < length xs) (is : x ≡ get_or xs i x) where
-    next_argument : arguments env (drop i ps) (given_of (drop i xs)) ≡ argument env (get_or ps i None) (given_one x) (arguments env (drop (i + 1) ps) (given_of (drop (i + 1) xs)))
-    next_argument =
-        let e : suc i ≡ i + 1 = omega arith in
-        ap (arguments env (drop i ps)) (given_next xs i x l is) ∙ one_argument ps i (given_one x) (given_of (drop (i + 1) xs))
-        ∙ ap (λ k. argument env (get_or ps i None) (given_one x) (arguments env (drop k ps) (given_of (drop (i + 1) xs)))) e
-
-    pub arguments_more : (whole : Evaluated) (es after : List Expression) (b c : Bool) (o : Option ProfileType) (first : Site) (a : Operand) → o ≡ get_or ps i None → first ≡ first_site (expression_tree all x) → a ≡ valued env (expression_tree all x) →
-        ((rest : Evaluated) → behind after c rest ≡ behind es b (argument env o (record { first = first; operand = a }) rest)) →
-        behind es b (arguments env (drop i ps) (given_of (drop i xs))) ≡ whole → behind after c (arguments env (drop (i + 1) ps) (given_of (drop (i + 1) xs))) ≡ whole
-    arguments_more whole es after b c o first a wanted site value given before =
-        let rest = arguments env (drop (i + 1) ps) (given_of (drop (i + 1) xs)) in
-        given rest
-        ∙ ap (λ z. behind es b (argument env z (record { first = first; operand = a }) rest)) wanted
-        ∙ ap (λ z. behind es b (argument env (get_or ps i None) (record { first = z; operand = a }) rest)) site
-        ∙ ap (λ z. behind es b (argument env (get_or ps i None) (record { first = first_site (expression_tree all x); operand = z }) rest)) value
-        ∙ sym (ap (behind es b) next_argument)
-        ∙ before
-
-  no_arguments : (ps : List (Option ProfileType)) → arguments env ps [] ≡ evaluated [] true
+  no_arguments : (ps : List (Option ProfileType)) → arguments env ps [] ≡ []
   no_arguments [] = refl
   no_arguments (p ∷ ps) = refl
 
-  pub arguments_end : (ps : List (Option ProfileType)) (xs : List Argument) (i : ℕ) (whole : Evaluated) (es : List Expression) (b : Bool) → length xs ≤ i → behind es b (arguments env (drop i ps) (given_of (drop i xs))) ≡ whole →
-      evaluated es b ≡ whole
-  arguments_end ps xs i whole es b l h =
-      sym (behind_nothing es b) ∙ sym (ap (behind es b) (ap (arguments env (drop i ps)) (given_none xs i l) ∙ no_arguments (drop i ps))) ∙ h
+  module _ (ps : List (Option ProfileType)) where
+    pub arguments_more : (es after whole : List Argument) (n : ℕ) (x : Given) (xs ys : List Given) (wanted : Option ProfileType) (a : Argument) → n ≡ length es → xs ≡ x ∷ ys → wanted ≡ get_or ps n None → a ≡ argument env wanted x → after ≡ es ++ a ∷ [] →
+        es ++ arguments env (drop (length es) ps) xs ≡ whole → after ++ arguments env (drop (length after) ps) ys ≡ whole
+    arguments_more es after whole n x xs ys wanted a count is wants given more h =
+        let longer : length after ≡ length es + 1 = ap length more ∙ length-append es (a ∷ []) in
+        let next : length after ≡ suc (length es) = omega (arith, longer) in
+        let this : a ≡ argument env (get_or ps (length es) None) x = given ∙ ap (λ z. argument env z x) (wants ∙ ap (λ k. get_or ps k None) count) in
+        let rest = arguments env (drop (suc (length es)) ps) ys in
+        ap (λ k. after ++ arguments env (drop k ps) ys) next
+        ∙ ap (λ z. z ++ rest) (more ∙ ap (λ z. es ++ z ∷ []) this)
+        ∙ append_assoc es (argument env (get_or ps (length es) None) x ∷ []) rest
+        ∙ sym (ap (λ z. es ++ z) (ap (arguments env (drop (length es) ps)) is ∙ one_argument ps (length es) x ys))
+        ∙ h
+
+    pub arguments_end : (es whole : List Argument) (xs : List Given) → xs ≡ [] → es ++ arguments env (drop (length es) ps) xs ≡ whole → es ≡ whole
+    arguments_end es whole xs is h =
+        sym (append-nil es) ∙ sym (ap (λ z. es ++ z) (ap (arguments env (drop (length es) ps)) is ∙ no_arguments (drop (length es) ps))) ∙ h

@@ -4,19 +4,20 @@ use Rattle.std.specs.Prelude.{if◌then◌else◌}
 use Rattle.px_base.specs.declared.trace.Site.{Site}
 use Rattle.px_expressions.specs.Reading.{or_else}
 use Rattle.px_syntax.specs.TypedTree as T
-use Rattle.px_syntax.specs.TypedTree.{Expression}
+use Rattle.px_syntax.specs.TypedTree.{Argument}
 use Rattle.px_real_expressions.specs.Lexemes.{Lexeme}
 use Rattle.px_real_expressions.specs.ExpressionTree.{expressions_of}
-use Rattle.px_real_reading.specs.declared.tree.Expression.{Expression as Argument}
+use Rattle.px_real_reading.specs.declared.tree.Expression.{Expression as Tree}
 use Rattle.px_real_reading.specs.Trees.{expression_tree}
 use Rattle.px_real_types.specs.declared.shape.ProfileType.{ProfileType}
+use Rattle.px_real_values.specs.declared.calls.Given.{Given as Kept}
 use Rattle.px_real_values.specs.Types.{int}
 use Rattle.px_real_values.specs.Environment.{Environment, Signature}
-use Rattle.px_real_values.specs.Operands.{Operand, of_type}
+use Rattle.px_real_values.specs.Operands.{of_type}
 use Rattle.px_real_values.specs.Operators.{stopped_at}
-use Rattle.px_real_values.specs.Calls.{Given, fits, all_parts, arguments, gives, called, function_call, input_call, expect_call}
-use Rattle.px_real_values.specs.Values.{valued, measured, block_of_type, block_of}
-use Rattle.px_real_values.proofs.ArgumentLemmas.{evaluated, given_of}
+use Rattle.px_real_values.specs.Calls.{Given, fits, all_parts, arguments, gives, function_call, input_call, expect_call}
+use Rattle.px_real_values.specs.Values.{measured, block_of_type, block_of}
+use Rattle.px_real_values.specs.Views.{operand_seen, given_seen}
 
 -- ---- as many as there are parameters
 
@@ -50,49 +51,47 @@ as_tested false ps xs yes no = sym (not_as_many ps xs (no refl))
 -- ---- of functions
 
 module _ (env : Environment) (s : Signature) (at : Site) (xs : List Given) where
-  pub not_fitting : fits s.parameters s.takes_more xs ≡ false → function_call env s at xs ≡ stopped_at env (codes "call") at (all_parts env xs)
-  not_fitting h = ap (λ z. if z then called env s at (arguments env s.parameters xs) else stopped_at env (codes "call") at (all_parts env xs)) h
+  pub not_fitting : fits s.parameters s.takes_more xs ≡ false → stopped_at env (codes "call") at (all_parts env xs) ≡ function_call env s at xs
+  not_fitting h = sym (ap (λ z. if z then gives env s at (T.arguments_of (arguments env s.parameters xs)) s.result else stopped_at env (codes "call") at (all_parts env xs)) h)
 
-  module _ (h : fits s.parameters s.takes_more xs ≡ true) (es : List Expression) where
-    fitting : function_call env s at xs ≡ called env s at (arguments env s.parameters xs)
-    fitting = ap (λ z. if z then called env s at (arguments env s.parameters xs) else stopped_at env (codes "call") at (all_parts env xs)) h
-
-    pub all_are_passed : evaluated es true ≡ arguments env s.parameters xs → function_call env s at xs ≡ gives env s at (T.expressions_of es) s.result
-    all_are_passed e = fitting ∙ ap (called env s at) (sym e)
-
-    pub some_are_not : evaluated es false ≡ arguments env s.parameters xs → function_call env s at xs ≡ stopped_at env (codes "call") at es
-    some_are_not e = fitting ∙ ap (called env s at) (sym e)
+  pub fitting : (es : List Argument) → fits s.parameters s.takes_more xs ≡ true → es ≡ arguments env s.parameters xs → gives env s at (T.arguments_of es) s.result ≡ function_call env s at xs
+  fitting es h e =
+      ap (λ z. gives env s at (T.arguments_of z) s.result) e
+      ∙ sym (ap (λ z. if z then gives env s at (T.arguments_of (arguments env s.parameters xs)) s.result else stopped_at env (codes "call") at (all_parts env xs)) h)
 
 -- ---- of the library
 
+module _ (env : Environment) (at : Site) where
+  pub input_alone : (xs : List Kept) → length xs ≡ 0 → of_type int at (T.get_char at) ≡ input_call env at (map given_seen xs)
+  input_alone [] l = refl
+  input_alone (x ∷ xs) l = absurd (omega arith)
+
+  pub input_with_some : (xs : List Kept) → length xs ≢ 0 → stopped_at env (codes "call") at (all_parts env (map given_seen xs)) ≡ input_call env at (map given_seen xs)
+  input_with_some [] l = absurd (l refl)
+  input_with_some (x ∷ xs) l = refl
+
+  pub expected_first : (xs : List Kept) (x : Kept) → length xs ≡ 2 → x ≡ get_or xs 0 x → operand_seen x.operand ≡ expect_call env at (map given_seen xs)
+  expected_first [] x l is = absurd (omega arith)
+  expected_first (a ∷ []) x l is = absurd (omega arith)
+  expected_first (a ∷ b ∷ []) x l is = ap (λ z. operand_seen z.operand) is
+  expected_first (a ∷ b ∷ c ∷ xs) x l is = absurd (omega arith)
+
+  pub expected_else : (xs : List Kept) → length xs ≢ 2 → stopped_at env (codes "call") at (all_parts env (map given_seen xs)) ≡ expect_call env at (map given_seen xs)
+  expected_else [] l = refl
+  expected_else (a ∷ []) l = refl
+  expected_else (a ∷ b ∷ []) l = absurd (l refl)
+  expected_else (a ∷ b ∷ c ∷ xs) l = refl
+
+-- ---- the block whose size is the argument
+
 module _ (env : Environment) (all : List Lexeme) where
-  pub input_alone : (at : Site) (xs : List Argument) → length xs ≡ 0 → input_call env at (given_of env all xs) ≡ of_type int at (T.get_char at)
-  input_alone at [] l = refl
-  input_alone at (x ∷ xs) l = absurd (omega arith)
-
-  pub input_with_some : (at : Site) (xs : List Argument) → length xs ≢ 0 → input_call env at (given_of env all xs) ≡ stopped_at env (codes "call") at (all_parts env (given_of env all xs))
-  input_with_some at [] l = absurd (omega arith)
-  input_with_some at (x ∷ xs) l = refl
-
-  pub expected_first : (at : Site) (xs : List Argument) (x : Argument) → length xs ≡ 2 → x ≡ get_or xs 0 x → expect_call env at (given_of env all xs) ≡ valued env (expression_tree all x)
-  expected_first at [] x l is = absurd (omega arith)
-  expected_first at (a ∷ []) x l is = absurd (omega arith)
-  expected_first at (a ∷ b ∷ []) x l is = ap (λ z. valued env (expression_tree all z)) (sym is)
-  expected_first at (a ∷ b ∷ c ∷ xs) x l is = absurd (omega arith)
-
-  pub expected_else : (at : Site) (xs : List Argument) → length xs ≢ 2 → expect_call env at (given_of env all xs) ≡ stopped_at env (codes "call") at (all_parts env (given_of env all xs))
-  expected_else at [] l = refl
-  expected_else at (a ∷ []) l = refl
-  expected_else at (a ∷ b ∷ []) l = absurd (omega arith)
-  expected_else at (a ∷ b ∷ c ∷ xs) l = refl
-
-  pub block_alone : (xs : List Argument) (x : Argument) → length xs ≡ 1 → x ≡ get_or xs 0 x →
+  pub block_alone : (xs : List Tree) (x : Tree) → length xs ≡ 1 → x ≡ get_or xs 0 x →
       block_of env (expressions_of (map (expression_tree all) xs)) ≡ or_else (measured env (expression_tree all x)) (block_of_type env) None
   block_alone [] x l is = absurd (omega arith)
   block_alone (a ∷ []) x l is = ap (λ z. or_else (measured env (expression_tree all z)) (block_of_type env) None) (sym is)
   block_alone (a ∷ b ∷ xs) x l is = absurd (omega arith)
 
-  pub no_block : (xs : List Argument) → length xs ≢ 1 → block_of env (expressions_of (map (expression_tree all) xs)) ≡ None
+  pub no_block : (xs : List Tree) → length xs ≢ 1 → block_of env (expressions_of (map (expression_tree all) xs)) ≡ None
   no_block [] l = refl
   no_block (a ∷ []) l = absurd (omega arith)
   no_block (a ∷ b ∷ xs) l = refl

@@ -1,5 +1,5 @@
 -- What calls are.
-use Rattle.std.specs.Prelude.{ℕ, Bool, true, false, ◌&&◌, List, [], ◌∷◌, ◌++◌, flat_map, Option, Some, None, codes, if◌then◌else◌}
+use Rattle.std.specs.Prelude.{ℕ, Bool, true, false, List, [], ◌∷◌, ◌++◌, flat_map, Option, Some, None, codes, if◌then◌else◌}
 use Rattle.px_base.specs.declared.trace.Site.{Site}
 use Rattle.px_terms.specs.declared.types.ValueType.TheVariants as V
 use Rattle.px_syntax.specs.TypedTree as T
@@ -46,11 +46,8 @@ module _ (env : Environment) where
   gives s at xs (Some t) = of_type t at (T.call s.proc xs (value_type env t) at)
   gives s at xs None = outside_of env (codes "call") at (T.call s.proc xs V.Int at ∷ [])
 
-  abbrev pub called : Signature → Site → List Argument → Operand
-  called s at xs = gives s at (T.arguments_of xs) s.result
-
   abbrev pub function_call : Signature → Site → List Given → Operand
-  function_call s at xs = if fits s.parameters s.takes_more xs then called s at (arguments s.parameters xs) else stopped_at env (codes "call") at (all_parts xs)
+  function_call s at xs = if fits s.parameters s.takes_more xs then gives s at (T.arguments_of (arguments s.parameters xs)) s.result else stopped_at env (codes "call") at (all_parts xs)
 
   -- `malloc` of the block whose size its argument is, if it is one's
   abbrev pub malloc_call : Site → Option ProfileType → List Given → Operand

@@ -1,6 +1,7 @@
 -- What the code has, as plain data.
 use Rattle.std.specs.Prelude.{map}
 use Rattle.px_syntax.specs.TypedViews.{typed_expression, typed_condition}
+use Rattle.px_real_values.specs.declared.calls.Given.{Given as Evaluated}
 use Rattle.px_real_values.specs.declared.environment.Signature.{Signature as Declared}
 use Rattle.px_real_values.specs.declared.environment.Callee.{Callee as Called}
 use Rattle.px_real_values.specs.declared.environment.Callee.TheVariants as C
@@ -12,6 +13,7 @@ use Rattle.px_real_values.specs.declared.operand.Operand.TheVariants as O
 use Rattle.px_real_values.specs.Spelled.{Spelled}
 use Rattle.px_real_values.specs.Environment.{Signature, Callee, function, library, no_function, Meaning, local, enumerator, other, undeclared}
 use Rattle.px_real_values.specs.Operands.{Operand, of_type, a_zero, a_null, a_test, a_block, a_name, a_member, outside, a_struct, an_object, stopped}
+use Rattle.px_real_values.specs.Calls.{Given}
 
 abbrev pub signature_seen : Declared → Signature
 signature_seen s = record { proc = s.proc; parameters = s.parameters.now; takes_more = s.takes_more; result = s.result }
@@ -42,3 +44,6 @@ operand_seen (O.Outside known parts word site) = outside known (map typed_expres
 operand_seen (O.Struct number pointer word site) = a_struct number (typed_expression pointer) word site
 operand_seen (O.Object known parts word site) = an_object known (map typed_expression parts.items) word site
 operand_seen (O.Stopped parts word site) = stopped (map typed_expression parts.items) word site
+
+abbrev pub given_seen : Evaluated → Given
+given_seen x = record { first = x.first; operand = operand_seen x.operand }

@@ -288,8 +288,9 @@ pub record Calls : Type 0 where
   pub needed_argument : Is (of_two (name (codes "f") (at 1)) 2 (gc 3) (gc 7)) (of_type int (at 1) (T.call (record { 0 = 7 }) (T.an_argument (T.passed (stop [] (w (codes "char")) (at 3))) (T.an_argument (T.erased T.no_expressions) T.no_arguments)) V.Int (at 1)))
   -- `h(gc)` has no result of the profile
   pub no_result : Is (of_one (name (codes "h") (at 1)) 2 (gc 3)) (outside unknown (T.call (record { 0 = 8 }) (T.an_argument (T.erased T.no_expressions) T.no_arguments) V.Int (at 1) ∷ []) (w (codes "call")) (at 1))
-  -- `h(getchar())`: the effect of what isn't passed has no place in a typed tree
-  pub an_effect : Is (of_one (name (codes "h") (at 1)) 2 (getchar 3)) (stopped (T.get_char (at 3) ∷ []) (w (codes "call")) (at 1))
+  -- `h(getchar())`, `f(getchar(), p->c)`: what isn't passed is evaluated
+  pub an_effect : Is (of_one (name (codes "h") (at 1)) 2 (getchar 3)) (outside unknown (T.call (record { 0 = 8 }) (T.an_argument (T.erased (T.an_expression (T.get_char (at 3)) T.no_expressions)) T.no_arguments) V.Int (at 1) ∷ []) (w (codes "call")) (at 1))
+  pub effects_in_order : Is (of_two (name (codes "f") (at 1)) 2 (getchar 3) (pointer_member (at 15) (p 14) (codes "c"))) (of_type int (at 1) (T.call (record { 0 = 7 }) (T.an_argument (T.passed (T.get_char (at 3))) (T.an_argument (T.erased (T.an_expression (cell (the_p 14) 0 15) T.no_expressions)) T.no_arguments)) V.Int (at 1)))
   -- `f(x)`, of another number, `y(getchar())`, of no declared name, `gc(x)` and `gc.v(x)`, of anything else
   pub another_number : Is (of_one (name (codes "f") (at 1)) 2 (x 3)) (stopped (the_x 3 ∷ []) (w (codes "call")) (at 1))
   pub of_undeclared : Is (of_one (y 1) 2 (getchar 3)) (stopped (T.get_char (at 3) ∷ []) (w (codes "call")) (at 1))

@@ -1,4 +1,5 @@
-ghost use Rattle.std.specs.Prelude.{◌≡◌, ◌++◌, List, [], map, codes, get_or, None, IfOk};
+ghost use Rattle.std.specs.Prelude.{◌≡◌, ◌++◌, List, [], map, codes, None, IfOk};
+ghost use Rattle.px_expressions.specs.Reading.{or_else};
 ghost use Rattle.px_expressions.specs.Terminals.{is_in};
 ghost use Rattle.px_real_expressions.specs.Lexemes.{Lexeme};
 ghost use Rattle.px_real_symbols.specs.Symbols.{held_in};
@@ -10,16 +11,16 @@ ghost use Rattle.px_syntax.specs.TypedViews.{typed_expression};
 ghost use Rattle.px_real_values.specs.Values as Rules;
 ghost use Rattle.px_real_values.specs.Operands as Operands;
 ghost use Rattle.px_real_values.specs.Calls as Calls;
-ghost use Rattle.px_real_values.specs.Views.{operand_seen, signature_seen};
+ghost use Rattle.px_real_values.specs.Views.{operand_seen, given_seen};
 
-use crate::calls::{argument, fits, gives};
+use crate::calls::{Given, call_of, put_given, stopped_call};
 use crate::casts::cast_as;
-use crate::environment::{Callee, Environment, Library, Meaning, Signature};
+use crate::environment::{Callee, Environment, Meaning};
 use crate::known::Known;
 use crate::members::{arrowed, dotted, indirected, object_of};
 use crate::operand::{Operand, Turn, counted, put_all};
 use crate::operators::{binary, outside_of, prefixed, stopped_at};
-use crate::types::{block_in, element, int, number_of, unknown};
+use crate::types::{block_in, element, number_of, unknown};
 use crate::words::{assignment_text, measure_text, step_text};
 use px_base::Site;
 use px_real_expressions::{Measure, Operator, Step};
@@ -84,6 +85,16 @@ fn block_of_type<E: Environment>(environment: &E, known: Known) -> Option<Profil
             }
         }
         None => Some(block),
+    }
+}
+
+// The same of what may be no size.
+fn block_if<E: Environment>(environment: &E, known: Option<Known>) -> Option<ProfileType>
+    ensures { result ≡ or_else known (Rules.block_of_type (E.sees environment.now)) None }
+{
+    match known {
+        Some(known) => block_of_type(environment, known),
+        None => None,
     }
 }
 
@@ -278,13 +289,8 @@ pub fn evaluate<'a, E: Environment>(
             *site,
             Vec::new(alloc),
         )),
-        Expression::Measure { measure, site, .. }
-        | Expression::MeasureType { measure, site, .. } => Ok(outside_of(
-            environment,
-            measure_text(*measure),
-            *site,
-            Vec::new(alloc),
-        )),
+        Expression::Measure { measure, site, .. } | Expression::MeasureType { measure, site, .. } =>
+            Ok(outside_of(environment, measure_text(*measure), *site, Vec::new(alloc))),
         Expression::Cast {
             site,
             type_name,
@@ -305,10 +311,14 @@ pub fn evaluate<'a, E: Environment>(
             linked(alloc, environment, *operator, *site, right, left)
         }
         Expression::Choice {
-            site, condition, ..
+            site,
+            condition,
+            ..
         }
         | Expression::ChoiceOr {
-            site, condition, ..
+            site,
+            condition,
+            ..
         } => {
             let condition = evaluate(alloc, environment, condition)?;
             chosen(alloc, environment, *site, condition)
@@ -321,12 +331,7 @@ pub fn evaluate<'a, E: Environment>(
         } => {
             let left = evaluate(alloc, environment, left)?;
             let parts = left.pointer_parts(alloc, environment)?;
-            Ok(stopped_at(
-                environment,
-                assignment_text(*operator),
-                *site,
-                parts,
-            ))
+            Ok(stopped_at(environment, assignment_text(*operator), *site, parts))
         }
     }
 }
@@ -442,6 +447,25 @@ fn element_at<'a, E: Environment>(
     }
 }
 
+// The arguments of a call, each with its first token.
+#[cycle(operand)]
+pub fn given<'a, E: Environment>(
+    alloc: Global,
+    environment: &'a E,
+    arguments: &[Expression],
+) -> Result<Vec<Given<'a>>, NoMemory>
+    ensures { IfOk result (λ v. map given_seen v.items ≡ Rules.given (E.sees environment.entry.now) (expressions_of (map (expression_tree (E.tokens environment.entry.now)) arguments.now))) }
+{
+    let mut all = Vec::with_capacity(alloc, arguments.len())?;
+    for i in 0..arguments.len() {
+        let argument = &arguments[i];
+        let operand = evaluate(alloc, environment, argument)?;
+        let first = first_site(argument);
+        put_given(&mut all, first, operand)?;
+    }
+    Ok(all)
+}
+
 // A call, at its parenthesis, of what may be a `Stop`.
 #[cycle(operand)]
 fn call<'a, E: Environment>(
@@ -455,156 +479,10 @@ fn call<'a, E: Environment>(
 {
     match function.turn(alloc)? {
         Turn::Stops(stopped) => Ok(stopped),
-        Turn::GoesOn(function) => call_of(alloc, environment, site, arguments, function),
-    }
-}
-
-// A call of what is no `Stop`, at its parenthesis.
-#[cycle(operand)]
-fn call_of<'a, E: Environment>(
-    alloc: Global,
-    environment: &'a E,
-    site: Site,
-    arguments: &[Expression],
-    function: Operand<'a>,
-) -> Result<Operand<'a>, NoMemory>
-    ensures { IfOk result (λ a. operand_seen a ≡ Calls.call_of (E.sees environment.entry.now) site (Rules.block_of (E.sees environment.entry.now) (expressions_of (map (expression_tree (E.tokens environment.entry.now)) arguments.now))) (Rules.given (E.sees environment.entry.now) (expressions_of (map (expression_tree (E.tokens environment.entry.now)) arguments.now))) (operand_seen function.entry)) }
-{
-    let text = b"call".as_slice();
-    match function {
-        Operand::Named {
-            callee: Callee::Function(signature),
-            site: at,
-            ..
-        } => function_call(alloc, environment, signature, at, arguments),
-        Operand::Named {
-            callee: Callee::Library(library),
-            site: at,
-            ..
-        } => library_call(alloc, environment, library, at, arguments),
-        Operand::Named { site: at, .. } => {
-            no_call(alloc, environment, text, at, arguments, Vec::new(alloc))
-        }
-        other => {
-            let parts = other.parts(alloc, environment)?;
-            no_call(alloc, environment, text, site, arguments, parts)
-        }
-    }
-}
-
-// A call that isn't understood, behind these parts and its arguments.
-#[cycle(operand)]
-pub fn no_call<'a, E: Environment>(
-    alloc: Global,
-    environment: &'a E,
-    text: &[u8],
-    at: Site,
-    arguments: &[Expression],
-    before: Vec<TypedExpression>,
-) -> Result<Operand<'a>, NoMemory>
-    ensures { IfOk result (λ a. operand_seen a ≡ stopped_at (E.sees environment.entry.now) text.now at (map typed_expression before.items ++ Calls.all_parts (E.sees environment.entry.now) (Rules.given (E.sees environment.entry.now) (expressions_of (map (expression_tree (E.tokens environment.entry.now)) arguments.now))))) }
-{
-    let mut all = before;
-    for i in 0..arguments.len() {
-        let argument = evaluate(alloc, environment, &arguments[i])?;
-        let parts = argument.parts(alloc, environment)?;
-        put_all(&mut all, parts)?;
-    }
-    Ok(stopped_at(environment, text, at, all))
-}
-
-// A call of a function.
-#[cycle(operand)]
-fn function_call<'a, E: Environment>(
-    alloc: Global,
-    environment: &'a E,
-    signature: Signature<'a>,
-    at: Site,
-    arguments: &[Expression],
-) -> Result<Operand<'a>, NoMemory>
-    ensures { IfOk result (λ a. operand_seen a ≡ Calls.function_call (E.sees environment.entry.now) (signature_seen signature.entry) at (Rules.given (E.sees environment.entry.now) (expressions_of (map (expression_tree (E.tokens environment.entry.now)) arguments.now)))) }
-{
-    let text = b"call".as_slice();
-    if !fits(signature, arguments.len()) {
-        return no_call(alloc, environment, text, at, arguments, Vec::new(alloc));
-    }
-    let mut all = Vec::with_capacity(alloc, arguments.len())?;
-    for i in 0..arguments.len() {
-        let given = evaluate(alloc, environment, &arguments[i])?;
-        let first = first_site(&arguments[i]);
-        let kind = parameter(signature, i);
-        all.push(argument(alloc, environment, kind, first, given)?)?;
-    }
-    gives(alloc, environment, signature, at, all)
-}
-
-// The type of a parameter of the profile; others, and what there is beyond them, are erased.
-fn parameter(signature: Signature, at: usize) -> Option<ProfileType>
-    ensures { result ≡ get_or signature.entry.parameters.now at None }
-{
-    match signature.parameters.get(at) {
-        Some(parameter) => *parameter,
-        None => None,
-    }
-}
-
-// A call of a function of the library.
-#[cycle(operand)]
-fn library_call<'a, E: Environment>(
-    alloc: Global,
-    environment: &'a E,
-    library: Library,
-    at: Site,
-    arguments: &[Expression],
-) -> Result<Operand<'a>, NoMemory>
-    ensures { IfOk result (λ a. operand_seen a ≡ Calls.library_call (E.sees environment.entry.now) library at (Rules.block_of (E.sees environment.entry.now) (expressions_of (map (expression_tree (E.tokens environment.entry.now)) arguments.now))) (Rules.given (E.sees environment.entry.now) (expressions_of (map (expression_tree (E.tokens environment.entry.now)) arguments.now)))) }
-{
-    let nothing = Vec::new(alloc);
-    match library {
-        Library::Malloc => match block_of(alloc, environment, arguments)? {
-            Some(block) => Ok(Operand::Block { block, site: at }),
-            None => {
-                let text = b"malloc".as_slice();
-                no_call(alloc, environment, text, at, arguments, nothing)
-            }
-        },
-        Library::Calloc => {
-            let text = b"calloc".as_slice();
-            no_call(alloc, environment, text, at, arguments, nothing)
-        }
-        Library::Realloc => {
-            let text = b"realloc".as_slice();
-            no_call(alloc, environment, text, at, arguments, nothing)
-        }
-        Library::Free => {
-            let text = b"free".as_slice();
-            no_call(alloc, environment, text, at, arguments, nothing)
-        }
-        Library::GetChar => {
-            if arguments.is_empty() {
-                return Ok(Operand::OfType {
-                    kind: int(),
-                    site: at,
-                    value: TypedExpression::GetChar { site: at },
-                });
-            }
-            let text = b"call".as_slice();
-            no_call(alloc, environment, text, at, arguments, nothing)
-        }
-        Library::Expect => {
-            if arguments.len() == 2 {
-                return evaluate(alloc, environment, &arguments[0]);
-            }
-            let text = b"call".as_slice();
-            no_call(alloc, environment, text, at, arguments, nothing)
-        }
-        Library::ConstantP => {
-            let text = b"__builtin_constant_p".as_slice();
-            Ok(outside_of(environment, text, at, nothing))
-        }
-        Library::ObjectSize => {
-            let text = b"__builtin_object_size".as_slice();
-            Ok(outside_of(environment, text, at, nothing))
+        Turn::GoesOn(function) => {
+            let block = block_of(alloc, environment, arguments)?;
+            let values = given(alloc, environment, arguments)?;
+            call_of(alloc, environment, site, block, values, function)
         }
     }
 }
@@ -622,21 +500,25 @@ fn measured<'a, E: Environment>(
     match expression {
         Expression::Parenthesised { inner, .. } => measured(alloc, environment, inner),
         Expression::Measure {
-            measure: Measure::Size,
+            measure,
             operand: inner,
             ..
-        } => {
-            let inner = evaluate(alloc, environment, inner)?;
-            Ok(Some(inner.known()))
-        }
+        } => match measure {
+            Measure::Size => {
+                let inner = evaluate(alloc, environment, inner)?;
+                Ok(Some(inner.known()))
+            }
+            Measure::Alignment => Ok(None),
+        },
         Expression::MeasureType {
-            measure: Measure::Size,
-            type_name,
-            ..
-        } => {
-            let spelled = environment.spelled(alloc, *type_name)?;
-            Ok(Some(Known::Seen(spelled.shape)))
-        }
+            measure, type_name, ..
+        } => match measure {
+            Measure::Size => {
+                let spelled = environment.spelled(alloc, *type_name)?;
+                Ok(Some(Known::Seen(spelled.shape)))
+            }
+            Measure::Alignment => Ok(None),
+        },
         _ => Ok(None),
     }
 }
@@ -650,12 +532,12 @@ fn block_of<'a, E: Environment>(
 ) -> Result<Option<ProfileType>, NoMemory>
     ensures { IfOk result (λ b. b ≡ Rules.block_of (E.sees environment.entry.now) (expressions_of (map (expression_tree (E.tokens environment.entry.now)) arguments.now))) }
 {
-    if arguments.len() != 1 {
-        return Ok(None);
-    }
-    match measured(alloc, environment, &arguments[0])? {
-        Some(known) => Ok(block_of_type(environment, known)),
-        None => Ok(None),
+    let count = arguments.len();
+    if count == 1 {
+        let known = measured(alloc, environment, &arguments[0])?;
+        Ok(block_if(environment, known))
+    } else {
+        Ok(None)
     }
 }
 
@@ -704,4 +586,19 @@ fn linked<'a, E: Environment>(
             binary(alloc, environment, operator, site, left, right)
         }
     }
+}
+
+/// A call that isn't understood, behind these parts and its arguments.
+pub fn no_call<'a, E: Environment>(
+    alloc: Global,
+    environment: &'a E,
+    text: &[u8],
+    at: Site,
+    arguments: &[Expression],
+    before: Vec<TypedExpression>,
+) -> Result<Operand<'a>, NoMemory>
+    ensures { IfOk result (λ a. operand_seen a ≡ stopped_at (E.sees environment.entry.now) text.now at (map typed_expression before.items ++ Calls.all_parts (E.sees environment.entry.now) (Rules.given (E.sees environment.entry.now) (expressions_of (map (expression_tree (E.tokens environment.entry.now)) arguments.now))))) }
+{
+    let values = given(alloc, environment, arguments)?;
+    stopped_call(alloc, environment, text, at, before, values)
 }

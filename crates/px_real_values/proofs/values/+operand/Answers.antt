@@ -1,17 +1,15 @@
-use Rattle.std.proofs.Common.{◌≡◌, ◌∙◌, refl, sym, ap, map, drop, length, get_or, None, Some, true, false, codes, [], arith}
-use Rattle.px_syntax.specs.TypedTree as T
-use Rattle.px_syntax.specs.TypedViews.{typed_expression}
-use Rattle.px_real_reading.specs.declared.tree.Expression.{Expression}
-use Rattle.px_real_expressions.specs.ExpressionTree.{ExpressionTree, binary, expressions_of}
-use Rattle.px_real_reading.specs.Trees.{SuffixTree, LinkTree, expression_tree, suffix_tree, link_tree, chained, suffixed, all_suffixed}
+use Rattle.std.proofs.Common.{◌≡◌, ◌≢◌, ◌∙◌, refl, sym, ap, map, length, None, arith}
+use Rattle.px_expressions.specs.Reading.{or_else}
+use Rattle.px_real_expressions.specs.ExpressionTree.{binary, expressions_of}
+use Rattle.px_real_reading.specs.Trees.{expression_tree, suffix_tree, link_tree, chained, suffixed, all_suffixed}
 use Rattle.px_real_reading.proofs.TreeEquations.{tree-Postfix, tree-Binary, suffix-Index, suffix-Call}
-use Rattle.px_real_values.specs.Operands.{Operand, unless_stopped, parts, pointer_parts}
+use Rattle.px_real_values.specs.Operands.{unless_stopped, parts, pointer_parts}
 use Rattle.px_real_values.specs.Operators.{valued_binary, dotted, arrowed, stopped_at, step_text}
-use Rattle.px_real_values.specs.Calls.{function_call, library_call, call_of, all_parts}
-use Rattle.px_real_values.specs.Values.{valued, indexed, is_zero, given, block_of}
-use Rattle.px_real_values.specs.Views.{operand_seen, signature_seen}
-use Rattle.px_real_values.proofs.ArgumentLemmas.{given_of, given_length, parts_more, parts_end, arguments_more, arguments_end}
-use Rattle.px_real_values.proofs.CallLemmas.{not_fitting, all_are_passed, some_are_not, input_alone, input_with_some, expected_first, expected_else, block_alone, no_block}
+use Rattle.px_real_values.specs.Calls.{call_of}
+use Rattle.px_real_values.specs.Values.{valued, indexed, is_zero, block_of_type, block_of}
+use Rattle.px_real_values.specs.Views.{operand_seen, given_seen}
+use Rattle.px_real_values.proofs.ArgumentLemmas.{given_of, given_more, given_end}
+use Rattle.px_real_values.proofs.CallLemmas.{block_alone, no_block}
 use Rattle.px_real_values.proofs.ChainLemmas.{along_begins, along_more, along_ends}
 use Rattle.px_real_values.proofs.OperandLemmas.{given_as}
 use Rattle.px_real_values.proofs.values.+operand.Goals as goal
@@ -74,26 +72,35 @@ links-returns g t c =
     along_ends (g.E.Environment.sees c.args.environment.now) (link_tree (g.E.Environment.tokens c.args.environment.now)) chained (λ e. refl)
     (operand_seen c.args.first) c.args.links.now c.loop-i.i (operand_seen c.loop-i.left) (omega arith) c.loop-i.invariant
 
-pub no_call-loop-i-preserved : goal.no_call-loop-i-preserved
-no_call-loop-i-preserved g t c =
+pub given-loop-i-preserved : goal.given-loop-i-preserved
+given-loop-i-preserved g t c =
     let env = g.E.Environment.sees c.args.environment.now in
     let all = g.E.Environment.tokens c.args.environment.now in
-    parts_more env all c.args.arguments.now c.loop-i.i c.index-arguments-i.result (map typed_expression c.loop-i.all.items) (map typed_expression c.in_ok-parts.parts.items) (map typed_expression c.put_all.new.all.items) _
-    c.loop-i-test.true c.index-arguments-i.is (c.in_ok-parts.ensures ∙ ap (parts env) c.in_ok-argument.ensures) c.in_ok-put_all.ensures c.loop-i.invariant
+    given_more env all c.args.arguments.now c.loop-i.i c.index-arguments-i.result (map given_seen c.loop-i.all.items) (map given_seen c.put_given.new.all.items) _ c.first_site-first.result (operand_seen c.in_ok-operand.operand)
+    c.loop-i-test.true c.index-arguments-i.is (c.first_site-first.ensures all) c.in_ok-operand.ensures c.in_ok-put_given.ensures c.loop-i.invariant
 
-pub no_call-returns : goal.no_call-returns
-no_call-returns g t c =
+pub given-returns : goal.given-returns
+given-returns g t c =
     let env = g.E.Environment.sees c.args.environment.now in
     let all = g.E.Environment.tokens c.args.environment.now in
-    c.stopped_at.ensures ∙ ap (stopped_at env c.args.text.now c.args.at) (parts_end env all c.args.arguments.now c.loop-i.i (map typed_expression c.loop-i.all.items) _ (omega arith) c.loop-i.invariant)
+    given_end env all c.args.arguments.now c.loop-i.i (map given_seen c.loop-i.all.items) _ (omega arith) c.loop-i.invariant
 
-pub function_call-loop-i-preserved : goal.function_call-loop-i-preserved
-function_call-loop-i-preserved g t c =
+pub block_of-returns-in_ok-known : goal.block_of-returns-in_ok-known
+block_of-returns-in_ok-known g t c =
     let env = g.E.Environment.sees c.args.environment.now in
     let all = g.E.Environment.tokens c.args.environment.now in
-    arguments_more env all c.args.signature.parameters.now c.args.arguments.now c.loop-i.i c.index-arguments-i.result c.loop-i-test.true c.index-arguments-i.is _
-    (map typed_expression c.loop-i.all.items) (map typed_expression c.give.new.all.items) c.loop-i.all_passed c.in_ok-all_passed.all_passed c.parameter-kind.result c.first_site-first.result (operand_seen c.in_ok-given.given)
-    c.parameter-kind.ensures (c.first_site-first.ensures all) c.in_ok-given.ensures c.in_ok-all_passed.ensures c.loop-i.invariant
+    let xs = c.args.arguments.now in
+    let x = c.index-arguments-0.result in
+    let one : length xs ≡ 1 = omega arith in
+    c.block_if.ensures ∙ ap (λ z. or_else z (block_of_type env) None) c.in_ok-known.ensures ∙ sym (block_alone env all xs x one c.index-arguments-0.is)
+
+pub block_of-returns-else-count-eq1 : goal.block_of-returns-else-count-eq1
+block_of-returns-else-count-eq1 g t c =
+    let env = g.E.Environment.sees c.args.environment.now in
+    let all = g.E.Environment.tokens c.args.environment.now in
+    let xs = c.args.arguments.now in
+    let others : length xs ≢ 1 = omega arith in
+    sym (no_block env all xs others)
 
 pub suffix-returns-in-Member : goal.suffix-returns-in-Member
 suffix-returns-in-Member g t c = λ e h.
