@@ -56,7 +56,7 @@ module _ (types : Types) (ts : List Lexeme) where
   pub no_declaration_read : ((d : DeclarationTree) → IsOneOf types false ts d → ⊥) → None ≡ or_else (as_whole (declaration_at types nesting_limit ts)) if_declaring None
   no_declaration_read none =
       sym (ap (λ z. or_else z if_declaring None)
-        (unread (declaration_at types nesting_limit ts) (λ d e. none d (whole_is (declaration_exact types (declared_exact types nesting_limit)) ts d (whole_of (declaration_at types nesting_limit ts) d e)))))
+      (unread (declaration_at types nesting_limit ts) (λ d e. none d (whole_is (declaration_exact types (declared_exact types nesting_limit)) ts d (whole_of (declaration_at types nesting_limit ts) d e)))))
 
   pub declaration_given : (d : DeclarationTree) → IsOneOf types false ts d → if_declaring d ≡ Some d → Some d ≡ or_else (as_whole (declaration_at types nesting_limit ts)) if_declaring None
   declaration_given d m h = sym (ap (λ z. or_else z if_declaring None) (declaration_read d m) ∙ h)

@@ -10,7 +10,7 @@ cleanup_both [] hs = refl
 cleanup_both (g ∷ gs) hs = ap (or_else (cleanup_in g.held) (λ site. Some site)) (cleanup_both gs hs) ∙ by (cleanup_in g.held)
   where
     by : (o : Option Site) → or_else o (λ site. Some site) (or_else (cleanup_of gs) (λ site. Some site) (cleanup_of hs))
-      ≡ or_else (or_else o (λ site. Some site) (cleanup_of gs)) (λ site. Some site) (cleanup_of hs)
+        ≡ or_else (or_else o (λ site. Some site) (cleanup_of gs)) (λ site. Some site) (cleanup_of hs)
     by (Some site) = refl
     by None = refl
 

@@ -51,11 +51,11 @@ keyword_no_name : (word : List ℕ) → is_no_name (keyword_of word) ≡ true
 keyword_no_name word =
     no_name_if (is_in type_words word) T.Type _ refl
     (no_name_if (is_in gnu_type_words word) T.Type _ refl
-      (no_name_if (is_in built_in_types word) T.Type _ refl
-        (no_name_if (is_in outside_words word) T.Outside _ refl
-          (no_name_if (is_in gnu_outside_words word) T.Outside _ refl
-            (no_name_if (is_in form_words word) T.Form _ refl
-              (no_name_either (keyword_in own_words word) (keyword_in statement_words word) (no_name_in own_words word refl) (no_name_in statement_words word refl)))))))
+    (no_name_if (is_in built_in_types word) T.Type _ refl
+    (no_name_if (is_in outside_words word) T.Outside _ refl
+    (no_name_if (is_in gnu_outside_words word) T.Outside _ refl
+    (no_name_if (is_in form_words word) T.Form _ refl
+    (no_name_either (keyword_in own_words word) (keyword_in statement_words word) (no_name_in own_words word refl) (no_name_in statement_words word refl)))))))
 
 punctuator_fixed : (p : Punctuator) → is_fixed (punctuator_terminal p) ≡ true
 punctuator_fixed P.OpenBrace = refl

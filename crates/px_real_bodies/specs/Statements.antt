@@ -103,7 +103,7 @@ module _ (f : Function) where
   given_back site [] at = record { trees = returned (env f at.scopes) f.returns site None; after = at }
   given_back site (t ∷ ts) at =
       or_else (expression_in at.scopes (t ∷ ts)) (λ e. record { trees = returned (env f at.scopes) f.returns site (Some (argument_of (env f at.scopes) e)); after = at })
-          (unread_there site (t ∷ ts) at)
+      (unread_there site (t ∷ ts) at)
 
   abbrev mutual
     -- a statement in a loop or outside

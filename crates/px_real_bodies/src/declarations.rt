@@ -281,15 +281,7 @@ fn declare_other<F: Function>(
 {
     let begins_anew = is_automatic(specifiers, &meaning);
     place.scopes.add_name(alloc, name.as_slice(), meaning)?;
-    put_parts(
-        alloc,
-        function,
-        &place.scopes,
-        on,
-        begins_anew,
-        value,
-        into,
-    )
+    put_parts(alloc, function, &place.scopes, on, begins_anew, value, into)
 }
 
 // What specifiers say of the names behind them.
@@ -351,15 +343,7 @@ fn declare_all<F: Function>(
 {
     for each in declared {
         let specifiers = said.specifiers;
-        put_stop(
-            alloc,
-            function,
-            &place.scopes,
-            on,
-            specifiers,
-            each,
-            into,
-        )?;
+        put_stop(alloc, function, &place.scopes, on, specifiers, each, into)?;
         declare_one(alloc, function, on, said, each, place, into)?;
     }
     Ok(())

@@ -529,9 +529,7 @@ pub fn put_statement<F: Function>(
                 condition: *condition,
                 step: *step,
             };
-            put_for(
-                alloc, function, on, in_loop, *site, head, body, place, into,
-            )
+            put_for(alloc, function, on, in_loop, *site, head, body, place, into)
         }
         Statement::Goto { site, .. } => put_stop(
             alloc,

@@ -59,7 +59,12 @@ fn leads_on(source: &[u8], symbols: &[Symbol], at: usize) -> bool
 }
 
 // This name, which stands before the one with this number, if its address is taken.
-fn name_of<'a>(source: &'a [u8], symbol: Symbol, symbols: &[Symbol], behind: usize) -> Option<&'a [u8]>
+fn name_of<'a>(
+    source: &'a [u8],
+    symbol: Symbol,
+    symbols: &[Symbol],
+    behind: usize,
+) -> Option<&'a [u8]>
     ensures { option_map (λ n. n.now) result ≡ (if same symbol.terminal T.Name && not (Rules.leads_on (drop behind (map (see source.entry.now) symbols.now))) then Some (text_of source.entry.now symbol.start symbol.end) else None) }
 {
     if symbol.terminal == Terminal::Name && !leads_on(source, symbols, behind) {
@@ -84,12 +89,7 @@ fn taken<'a>(source: &'a [u8], symbols: &[Symbol], start: usize) -> Option<&'a [
 
 impl<'a> AddressedNames<'a> {
     // The name that an `&` before the token with this number stands before, if its address is taken.
-    fn add_taken(
-        &mut self,
-        source: &'a [u8],
-        symbols: &[Symbol],
-        at: usize,
-    ) -> Result<(), NoMemory>
+    fn add_taken(&mut self, source: &'a [u8], symbols: &[Symbol], at: usize) -> Result<(), NoMemory>
         ensures { OnOk result ((name : List ℕ) → holds self.new name ≡ (is_taken (Rules.taken (drop at (map (see source.entry.now) symbols.now))) name || holds self.old name)) }
     {
         if let Some(name) = taken(source, symbols, at) {

@@ -20,7 +20,7 @@ put_all_statements-loop-statement-preserved g t c =
     let before = map typed_statement c.loop-statement.into.items in
     walked_on (done f c.args.in_loop (tree x) (place_seen c.loop-statement.place)) (all_done f c.args.in_loop (statements_of (map tree (drop (i + 1) xs)))) before _ _ c.in_ok-put_statement.ensures
     ∙ sym (ap (λ z. behind before (all_done f c.args.in_loop (statements_of (map tree z)) (place_seen c.loop-statement.place)))
-        (drop_more xs i x c.loop-statement-test.true ∙ ap (λ z. z ∷ drop (i + 1) xs) (sym c.statement-item.is)))
+    (drop_more xs i x c.loop-statement-test.true ∙ ap (λ z. z ∷ drop (i + 1) xs) (sym c.statement-item.is)))
     ∙ c.loop-statement.invariant
 
 pub put_all_statements-returns : goal.put_all_statements-returns
