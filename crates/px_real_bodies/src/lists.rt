@@ -5,7 +5,7 @@ ghost use Rattle.px_real_types.specs.Scopes.{texts};
 ghost use Rattle.px_real_bodies.specs.Values as Rules;
 ghost use Rattle.px_real_bodies.specs.Declarations.{only_item, unbraced};
 
-use px_real_declaring::NoTypes;
+use px_real_declaring::reading::NoTypes;
 use px_real_expressions::Terminal;
 use px_real_names::enumerated::within;
 use px_real_names::slices::some_first;

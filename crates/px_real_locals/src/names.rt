@@ -9,7 +9,7 @@ ghost use Rattle.px_real_locals.specs.Views.{holds, is_taken};
 
 use indexmap::IndexMap;
 use px_expressions::text;
-use px_real_declaring::NoTypes;
+use px_real_declaring::reading::NoTypes;
 use px_real_expressions::Terminal;
 use px_real_symbols::symbol::{Symbol, symbols};
 use px_real_types::Texts;
