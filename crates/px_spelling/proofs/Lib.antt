@@ -12,3 +12,7 @@ pub mod TableRoundTrips
 pub mod OperandRoundTrips
 pub mod CalleeRoundTrips
 pub mod InFullRoundTrips
+pub mod PlaceLemmas
+pub mod DistinctLemmas
+pub mod SearchLemmas
+pub mod MentionRanges
