@@ -14,5 +14,6 @@ pub mod CalleeRoundTrips
 pub mod InFullRoundTrips
 pub mod PlaceLemmas
 pub mod DistinctLemmas
-pub mod SearchLemmas
+pub mod IndexLemmas
+pub mod Growing
 pub mod MentionRanges

@@ -1,12 +1,13 @@
 -- Polynomials by their places in a list.
-use Rattle.std.specs.Prelude.{◌≡◌, ℕ, suc, List, [], ◌∷◌, Option, Some, None, slice_get, slice_index_or, length, ◌+◌, ◌<◌, filter, cond, Bool, false, not, ⊤}
-use Rattle.std.specs.List.{AllByRecursion, IsAmong}
-use Rattle.std.specs.Option.{option_map, option_cmp}
+use Rattle.std.specs.Prelude.{◌≡◌, ℕ, suc, List, [], ◌∷◌, Option, Some, None, option_and_then, slice_get, length, ◌<◌, filter, cond, Bool, false, not, nat_eq, ⊤}
+use Rattle.std.specs.List.{AllByRecursion, Contains}
+use Rattle.std.specs.List.Sorted.{IsSorted}
+use Rattle.std.specs.Option.{option_map, option_cmp, option_eq}
 use Rattle.std.specs.Ordering.{nat_cmp, ordering_then, is_eq}
 use Rattle.std.specs.Cmp.{IsTotalOrder}
 use Rattle.std.specs.Cmp.Lexicographic.{slice_cmp}
 use Rattle.std.specs.declared.cmp.Ordering.{Ordering}
-use Rattle.std.specs.declared.cmp.Ordering.TheVariants.{Less, Equal, Greater}
+use Rattle.std.specs.declared.cmp.Ordering.TheVariants.{Equal}
 use Rattle.px_terms.specs.Terms.{Term}
 use Rattle.px_terms.specs.Polynomials.{Polynomial}
 use Rattle.px_spelling.specs.Reading.{Reader, ◌>>=◌, done, nothing}
@@ -74,24 +75,19 @@ by_place terms = record { bytes_of = λ p. found_bytes (place_in terms p); fits 
 
 -- ---- finding them
 
--- what stands at a place, against a polynomial; a place beyond the list is after each
-abbrev pub against : Option Polynomial → Polynomial → Ordering
-against None p = Greater
-against (Some q) p = polynomial_cmp q p
-
+-- what stands at a place, against a polynomial; a place beyond the list is before each
 abbrev pub order_at : List Polynomial → Polynomial → ℕ → Ordering
-order_at terms p place = against (slice_get terms place) p
+order_at terms p place = option_cmp polynomial_cmp (slice_get terms place) (Some p)
 
--- what stands at the first place is before what stands at the second
-abbrev pub StandsBefore : List Polynomial → ℕ → ℕ → Type 0
-StandsBefore terms i j = (p : Polynomial) × (slice_get terms j ≡ Some p) × (order_at terms p i ≡ Less)
+-- places by what stands there, and those of the same polynomial in their order
+abbrev pub place_cmp : List Polynomial → ℕ → ℕ → Ordering
+place_cmp terms i j = ordering_then (option_cmp polynomial_cmp (slice_get terms i) (slice_get terms j)) (nat_cmp i j)
 
--- what stands at each place is after what stands at the one before
-abbrev pub Rise : List Polynomial → List ℕ → Type 0
-Rise terms places = (i d : ℕ) → i + 1 < length places → option_cmp polynomial_cmp (slice_get terms (slice_index_or places i d)) (slice_get terms (slice_index_or places (i + 1) d)) ≡ Less
-
--- each place once, by the order of what stands there; the polynomials differ
+-- each place of a list, in that order
 pub record IsIndex (terms : List Polynomial) (places : List ℕ) : Type 0 where
-  pub differ : Differ terms
-  pub rise : (i j d : ℕ) → i < j → j < length places → StandsBefore terms (slice_index_or places i d) (slice_index_or places j d)
-  pub all : (n : ℕ) → n < length terms → IsAmong places n
+  pub sorted : IsSorted (place_cmp terms) places
+  pub all : (n : ℕ) → n < length terms → Contains places n
+
+-- whether what stands at a place stands at none before it
+abbrev pub is_first_at : List Polynomial → ℕ → Bool
+is_first_at terms place = option_eq nat_eq (option_and_then (place_in terms) (slice_get terms place)) (Some place)

@@ -25,6 +25,7 @@ mod mentions;
 mod numbers;
 mod operands;
 mod output;
+mod places;
 mod polynomial_order;
 mod polynomials;
 mod spell;
@@ -44,5 +45,5 @@ pub use spell::{
     Wire, WireWith, are_in_range, are_in_range_with, read_items, read_items_with, write_count,
     write_items, write_items_with,
 };
-pub use term_list::TermList;
+pub use term_list::{TermList, distinct};
 pub use terms::{InFull, Terms};

@@ -1,32 +1,30 @@
-ghost use Rattle.std.specs.Prelude.{◌≡◌, ◌↔◌, true, slice_get, IfOk, IfSome, IsSome};
-ghost use Rattle.std.specs.Option.{option_cmp};
-ghost use Rattle.px_spelling.specs.ByPlace.{polynomial_cmp, Differ, place_in, order_at, Rise, IsIndex};
+ghost use Rattle.std.specs.Prelude.{◌≡◌, ◌↔◌, true, map, IfOk, IfSome, IsSome};
+ghost use Rattle.px_spelling.specs.ByPlace.{distinct, Differ, place_in, IsIndex};
 
-use crate::polynomial_order::order;
+use crate::places::{Lent, first_place, is_first_at, sorted_places};
 use crate::spell::write_count;
 use crate::{Output, Terms, Wire, WireFault};
 use px_terms::{Items, NoMemory, Poly};
 use std::alloc::Global;
-use std::cmp::Ordering;
 use std::marker::Model;
 
-/// Different polynomials in order. Each is found in a time as the logarithm of their number, without memory.
+/// Different polynomials in order. The place of one is found in a time as the logarithm of their number.
 pub struct TermList {
     terms: Items<Poly>,
-    /// Their places, by the order of what stands there.
+    /// Their places, in the order of what stands there.
     places: Vec<usize>,
 }
 
 impl Model for TermList {
     ghost use Rattle.std.specs.Prelude.{List};
     ghost use Rattle.px_terms.specs.Polynomials.{Polynomial};
-    ghost use Rattle.px_spelling.specs.ByPlace.{IsIndex};
+    ghost use Rattle.px_spelling.specs.ByPlace.{Differ, IsIndex};
 
     ghost Value = { List Polynomial };
 
     ghost view = { λ s. s.terms };
 
-    ghost invariant = { λ s. IsIndex s.terms s.places.items };
+    ghost invariant = { λ s. Differ s.terms × IsIndex s.terms s.places.items };
 }
 
 impl TermList {
@@ -35,9 +33,11 @@ impl TermList {
         ensures same { IfOk result (λ o. IfSome o (λ s. s ≡ terms)) }
         ensures differ { IfOk result (λ o. IsSome o ↔ Differ terms) }
     {
-        match sorted_places(alloc, terms.as_slice())? {
-            None => Ok(None),
-            Some(places) => Ok(Some(TermList { terms, places })),
+        let places = sorted_places(alloc, &terms)?;
+        if do_differ(&terms, &places) {
+            Ok(Some(TermList { terms, places }))
+        } else {
+            Ok(None)
         }
     }
 
@@ -50,70 +50,67 @@ impl TermList {
     }
 
     /// The place of a polynomial, if it is among them. Takes no memory.
-    #[tactic(auto, using(crate::proofs::SearchLemmas::place_of_search))]
     pub fn place(&self, polynomial: &Poly) -> Option<usize>
         ensures { result ≡ place_in self.now polynomial.now }
     {
-        let terms = self.terms.as_slice();
-        match self
-            .places
-            .binary_search_by(|place| order_at(terms, polynomial, *place))
-        {
-            Ok(i) => Some(self.places[i]),
-            Err(_) => None,
+        first_place(&self.terms, &self.places, polynomial)
+    }
+
+    /// Whether these are the polynomials of mentions, each once, in the order of their first mentions. Takes no memory.
+    pub fn lists(&self, mentions: &[&Poly]) -> bool
+        ensures { result ≡ true ↔ distinct (map (λ p. p.now) mentions.now) ≡ self.now }
+    {
+        let mut count = 0;
+        for mention in mentions {
+            let Some(place) = self.place(mention) else {
+                return false;
+            };
+            if place > count {
+                return false;
+            }
+            if place == count {
+                count += 1;
+            }
+        }
+        count == self.terms.len()
+    }
+}
+
+/// The polynomials of mentions, each once, in the order of their first mentions.
+pub fn distinct(alloc: Global, mentions: &[&Poly]) -> Result<TermList, NoMemory>
+    ensures { IfOk result (λ s. s ≡ distinct (map (λ p. p.now) mentions.now)) }
+{
+    let terms = first_mentions(alloc, mentions)?;
+    let places = sorted_places(alloc, &terms)?;
+    Ok(TermList { terms, places })
+}
+
+// A copy of each, where it is mentioned first.
+fn first_mentions(alloc: Global, mentions: &[&Poly]) -> Result<Items<Poly>, NoMemory>
+    ensures { IfOk result (λ s. s ≡ distinct (map (λ p. p.now) mentions.now)) }
+{
+    let lent = Lent { all: mentions };
+    let places = sorted_places(alloc, &lent)?;
+    let mut terms = Vec::new(alloc);
+    for i in 0..mentions.len() {
+        if is_first_at(&lent, &places, i) {
+            terms.push(mentions[i].copy()?)?;
         }
     }
+    Ok(Items::from_vec(terms))
 }
 
-// The places by the order of what stands there; none where two are the same.
-fn sorted_places(alloc: Global, terms: &[Poly]) -> Result<Option<Vec<usize>>, NoMemory>
-    ensures index { IfOk result (λ o. IfSome o (λ places. IsIndex terms.now places.items)) }
-    ensures differ { IfOk result (λ o. IsSome o ↔ Differ terms.now) }
+// Whether no two are the same: whether each stands first at its own place.
+fn do_differ(terms: &Items<Poly>, places: &[usize]) -> bool
+    requires { IsIndex terms.now places.now }
+    ensures { result ≡ true ↔ Differ terms.now }
 {
-    let mut places = Vec::new(alloc);
-    for place in 0..terms.len() {
-        places.push(place)?;
-    }
-    places.sort_unstable_by(|i, j| order_between(terms, *i, *j));
-    if do_places_rise(terms, &places) {
-        Ok(Some(places))
-    } else {
-        Ok(None)
-    }
-}
-
-// What stands at two places; nothing is before a polynomial.
-fn order_between(terms: &[Poly], i: usize, j: usize) -> Ordering
-    ensures { result ≡ option_cmp polynomial_cmp (slice_get terms.now i) (slice_get terms.now j) }
-{
-    match (terms.get(i), terms.get(j)) {
-        (None, None) => Ordering::Equal,
-        (None, Some(_)) => Ordering::Less,
-        (Some(_), None) => Ordering::Greater,
-        (Some(a), Some(b)) => order(a, b),
-    }
-}
-
-// Whether what stands at each place is after what stands at the one before.
-fn do_places_rise(terms: &[Poly], places: &[usize]) -> bool
-    ensures { result ≡ true ↔ Rise terms.now places.now }
-{
-    for i in 1..places.len() {
-        if !order_between(terms, places[i - 1], places[i]).is_lt() {
+    for i in 0..terms.len() {
+        if !is_first_at(terms, places, i) {
             return false;
         }
     }
     true
-}
-
-// What stands at a place, against a polynomial.
-fn order_at(terms: &[Poly], polynomial: &Poly, place: usize) -> Ordering
-    ensures { result ≡ order_at terms.now polynomial.now place }
-{
-    match terms.get(place) {
-        None => Ordering::Greater,
-        Some(term) => order(term, polynomial),
-    }
 }
 
 impl Terms for TermList {
