@@ -2,16 +2,13 @@
 use Rattle.std.proofs.Common.{◌≡◌, ℕ, zero, suc, ◌+◌, ◌<◌, ◌≤◌, List, [], ◌∷◌, ◌++◌, length, take, drop, get_or, Bool, true, false, cond, ◌||◌, Option, Some, None, is_some, refl, sym, ap, subst, ◌∙◌, append_assoc, arith}
 use Rattle.std.specs.Prelude.{filter, not, slice_get, nat_eq, nat_lt, option_and_then, ◌≢◌, ⊤}
 use Rattle.std.specs.Option.{option_map, option_eq}
-use Rattle.std.specs.Ordering.{is_eq}
-use Rattle.std.specs.declared.cmp.Ordering.{Ordering}
-use Rattle.std.specs.declared.cmp.Ordering.TheVariants.{Less, Equal, Greater}
 use Rattle.std.proofs.lemmas.Option.{same_Some}
 use Rattle.std.proofs.lemmas.Bool.Decides.{nat_tests}
 use Rattle.std.proofs.lemmas.List.{append-nil, take_more, take_all, take-append-drop, length-take-le}
 use Rattle.std.proofs.lemmas.List.Elements.{filter-append}
 use Rattle.px_terms.specs.Polynomials.{Polynomial}
-use Rattle.px_spelling.specs.ByPlace.{polynomial_cmp, is_same, distinct, Differ, place_in, is_first_at}
-use Rattle.px_spelling.proofs.PlaceLemmas.{only_same, same_itself, all_differ, found}
+use Rattle.px_spelling.specs.ByPlace.{is_same, distinct, Differ, place_in, is_first_at}
+use Rattle.px_spelling.proofs.PlaceLemmas.{same_decides, same_itself, all_differ, found}
 use Rattle.px_spelling.proofs.IndexLemmas.{own_place, within}
 
 -- ---- one more is mentioned
@@ -31,8 +28,12 @@ distinct_more (q ∷ qs) p = ap (λ ds. q ∷ others q ds) (distinct_more qs p) 
     behind_first : (b : Bool) (r : Option ℕ) → is_same q p ≡ b → q ∷ others q (grown (is_some r) (distinct qs) p) ≡ grown (is_some (cond b (Some 0) (option_map suc r))) (q ∷ others q (distinct qs)) p
     behind_first true (Some m) e = refl
     behind_first false (Some m) e = refl
-    behind_first true None e = ap (λ ds. q ∷ ds) (filter-append (λ r. not (is_same q r)) (distinct qs) (p ∷ []) ∙ rw e (append-nil (others q (distinct qs))))
-    behind_first false None e = ap (λ ds. q ∷ ds) (filter-append (λ r. not (is_same q r)) (distinct qs) (p ∷ []) ∙ rw e refl)
+    behind_first true None e =
+        let kept : others q (distinct qs ++ p ∷ []) ≡ others q (distinct qs) = filter-append (λ r. not (is_same q r)) (distinct qs) (p ∷ []) ∙ rw e (append-nil (others q (distinct qs))) in
+        ap (λ ds. q ∷ ds) kept
+    behind_first false None e =
+        let kept : others q (distinct qs ++ p ∷ []) ≡ others q (distinct qs) ++ p ∷ [] = filter-append (λ r. not (is_same q r)) (distinct qs) (p ∷ []) ∙ rw e refl in
+        ap (λ ds. q ∷ ds) kept
 
 -- ---- the same are there
 
@@ -41,14 +42,6 @@ there true r = refl
 there false None = refl
 there false (Some m) = refl
 
-same_is : (q r : Polynomial) → is_same q r ≡ true → q ≡ r
-same_is q r e = by_order (polynomial_cmp q r) refl e
-  where
-    by_order : (o : Ordering) → polynomial_cmp q r ≡ o → is_eq o ≡ true → q ≡ r
-    by_order Less e h = cc
-    by_order Equal e h = only_same q r e
-    by_order Greater e h = cc
-
 -- another one is there without what is the same as q, if it was there
 kept_there : (q p : Polynomial) (ps : List Polynomial) → is_same q p ≡ false → is_some (place_in (others q ps) p) ≡ is_some (place_in ps p)
 kept_there q p [] e = refl
@@ -56,7 +49,7 @@ kept_there q p (r ∷ rs) e = by_same (is_same q r) refl
   where
     by_same : (b : Bool) → is_same q r ≡ b → is_some (place_in (cond (not b) (r ∷ others q rs) (others q rs)) p) ≡ is_some (place_in (r ∷ rs) p)
     by_same true same =
-        let other : is_same r p ≡ false = subst (λ x. is_same x p ≡ false) (same_is q r same) e in
+        let other : is_same r p ≡ false = subst (λ x. is_same x p ≡ false) ((same_decides q r).0 same) e in
         kept_there q p rs e ∙ sym (there (is_same r p) (place_in rs p) ∙ rw other refl)
     by_same false same =
         there (is_same r p) (place_in (others q rs) p) ∙ ap (λ b. is_same r p || b) (kept_there q p rs e) ∙ sym (there (is_same r p) (place_in rs p))
@@ -79,7 +72,7 @@ lt_suc m i = grind (arith, nat_tests)
 
 first_by : (b : Bool) (r s : Option ℕ) (i : ℕ) → is_some r ≡ not (option_eq nat_eq s (Some i))
     → is_some (cond b (Some 0) (option_map suc r)) ≡ not (option_eq nat_eq (cond b (Some 0) (option_map suc s)) (Some (suc i)))
-first_by true r s i e = grind (arith, nat_tests)
+first_by true r s i e = let other : nat_eq 0 (suc i) ≡ false = grind (arith, nat_tests) in rw other refl
 first_by false r None i e = there false r ∙ e
 first_by false r (Some m) i e = there false r ∙ e ∙ ap not (sym (eq_suc m i))
 
@@ -123,10 +116,10 @@ is_below c (Some k) = nat_lt k c
 
 below_none : (r : Option ℕ) → false ≡ is_below 0 r
 below_none None = refl
-below_none (Some k) = grind (arith, nat_tests)
+below_none (Some k) = let not_less : nat_lt k 0 ≡ false = grind (arith, nat_tests) in sym not_less
 
 below_by : (b : Bool) (r s : Option ℕ) (c : ℕ) → is_some r ≡ is_below c s → is_some (cond b (Some 0) (option_map suc r)) ≡ is_below (suc c) (cond b (Some 0) (option_map suc s))
-below_by true r s c e = grind (arith, nat_tests)
+below_by true r s c e = let less : nat_lt 0 (suc c) ≡ true = grind (arith, nat_tests) in sym less
 below_by false r None c e = there false r ∙ e
 below_by false r (Some k) c e = there false r ∙ e ∙ sym (lt_suc k c)
 
@@ -159,13 +152,15 @@ lists_new ms ts i c d lt so_far at =
     let few : c < length ts = within ts c p stands in
     let same : get_or ts c d ≡ p = same_Some (get_or ts c d) p (sym (stands_at ts c d few) ∙ stands) in
     let below : nat_lt c c ≡ false = grind (arith, nat_tests) in
-    (few, listed_more ms ts i c d lt so_far ∙ rw (at, below) (ap (λ x. take c ts ++ x ∷ []) (sym same)) ∙ sym (take_more ts c d few))
+    let longer : distinct (take (i + 1) ms) ≡ take c ts ++ p ∷ [] = listed_more ms ts i c d lt so_far ∙ rw (at, below) refl in
+    (few, longer ∙ ap (λ x. take c ts ++ x ∷ []) (sym same) ∙ sym (take_more ts c d few))
 
 -- what stands somewhere stays there as more is mentioned
 stays : (more ps : List Polynomial) (n : ℕ) (p : Polynomial) → slice_get (distinct ps) n ≡ Some p → slice_get (distinct (ps ++ more)) n ≡ Some p
 stays [] ps n p e = rw append-nil e
 stays (q ∷ qs) ps n p e =
-    rw (sym (append_assoc ps (q ∷ []) qs)) (stays qs (ps ++ q ∷ []) n p (rw distinct_more (in_grown (is_some (place_in ps q)) (distinct ps) n e)))
+    let joined : ps ++ q ∷ qs ≡ (ps ++ q ∷ []) ++ qs = sym (append_assoc ps (q ∷ []) qs) in
+    rw joined (stays qs (ps ++ q ∷ []) n p (rw (distinct_more ps q) (in_grown (is_some (place_in ps q)) (distinct ps) n e)))
   where
     in_longer : (xs : List Polynomial) (n : ℕ) → slice_get xs n ≡ Some p → slice_get (xs ++ q ∷ []) n ≡ Some p
     in_longer [] n e = absurd cc

@@ -146,7 +146,7 @@ behind ts ks p i m h end stands =
           (λ (l : k.0 < i).
           let less = end.0 k.0 m (omega arith) l in
           let both : true ≡ false = sym less ∙ ap is_lt equal in
-          cc)
+          absurd cc)
           (λ (l : i ≤ k.0). l)
           (below_or_not k.0 i);
       is = k.2;

@@ -58,6 +58,14 @@ only_same p q h =
 pub same_itself : (p : Polynomial) → is_same p p ≡ true
 same_itself p = ap is_eq (tied_itself polynomial_total p)
 
+pub same_decides : (p q : Polynomial) → (is_same p q ≡ true → p ≡ q) × (p ≡ q → is_same p q ≡ true)
+same_decides p q = (by_order (polynomial_cmp p q) refl, λ e. subst (λ x. is_same p x ≡ true) e (same_itself p))
+  where
+    by_order : (o : Ordering) → polynomial_cmp p q ≡ o → is_eq o ≡ true → p ≡ q
+    by_order Less e h = cc
+    by_order Equal e h = only_same p q e
+    by_order Greater e h = cc
+
 -- ---- places
 
 found_first : (o : Ordering) (q p : Polynomial) (qs : List Polynomial) (r : Option ℕ) (n : ℕ) → polynomial_cmp q p ≡ o → place_in qs p ≡ r

@@ -36,6 +36,7 @@ impl Listed for Items<Poly> {
 }
 
 /// Polynomials that stand elsewhere.
+#[derive(Drop)]
 pub(crate) struct Lent<'a> {
     pub(crate) all: &'a [&'a Poly],
 }

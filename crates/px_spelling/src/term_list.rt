@@ -9,6 +9,7 @@ use std::alloc::Global;
 use std::marker::Model;
 
 /// Different polynomials in order. The place of one is found in a time as the logarithm of their number.
+#[derive(Drop)]
 pub struct TermList {
     terms: Items<Poly>,
     /// Their places, in the order of what stands there.
@@ -72,7 +73,7 @@ impl TermList {
                 count += 1;
             }
         }
-        count == self.terms.len()
+        count == self.as_slice().len()
     }
 }
 
@@ -142,14 +143,5 @@ impl Terms for TermList {
             None => false,
             Some(place) => place <= u32::MAX as usize,
         }
-    }
-}
-
-impl Drop for TermList {
-    fn drop(self) {
-        let TermList {
-            terms: _,
-            places: _,
-        } = self;
     }
 }

@@ -41,6 +41,7 @@ pub enum Said {
 /// What is said, and in which version of the bytes.
 ///
 /// In version 2 it has the list of its terms: each polynomial that it mentions, once, in the order of their first mentions.
+#[derive(Drop)]
 pub struct Message {
     alloc: Global,
     said: Said,
@@ -121,15 +122,5 @@ impl Message {
             terms: _,
         } = self;
         said
-    }
-}
-
-impl Drop for Message {
-    fn drop(self) {
-        let Message {
-            alloc: _,
-            said: _,
-            terms: _,
-        } = self;
     }
 }

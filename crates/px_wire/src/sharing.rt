@@ -1,10 +1,12 @@
 ghost use Rattle.std.specs.Prelude.{◌≡◌, ◌↔◌, ◌++◌, true, map, IfOk, OnOk};
-ghost use Rattle.px_callgraph.specs.JobTree.{job_tree};
+ghost use Rattle.std.specs.List.{flat_map};
+ghost use Rattle.px_spelling.specs.Mentions.{callee_mentions};
 ghost use Rattle.px_wire.specs.MessageTrees.{said_tree};
-ghost use Rattle.px_wire.specs.Mentions.{job_mentions, mentions, terms_of};
+ghost use Rattle.px_wire.specs.Mentions.{mentions, terms_of};
 
 use crate::message::{Message, Said};
-use px_callgraph::Job;
+use px_base::ProcId;
+use px_callgraph::Callee;
 use px_spelling::{Mentions, TermList, distinct};
 use px_terms::{NoMemory, Poly};
 use std::alloc::Global;
@@ -42,17 +44,20 @@ fn add_mentions<'a>(said: &'a Said, all: &mut Vec<&'a Poly>) -> Result<(), NoMem
     ensures { OnOk result (map (λ p. p.now) all.new.items ≡ map (λ p. p.now) all.old.items ++ mentions (said_tree said.now)) }
 {
     match said {
-        Said::Request { job } => add_job_mentions(job, all),
+        Said::Request { job } => add_callee_mentions(job.callees.as_slice(), all),
         Said::Reply { table, .. } => table.add_mentions(all),
         Said::Large { .. } => Ok(()),
     }
 }
 
-// Adds what is mentioned in a job.
-fn add_job_mentions<'a>(job: &'a Job, all: &mut Vec<&'a Poly>) -> Result<(), NoMemory>
-    ensures { OnOk result (map (λ p. p.now) all.new.items ≡ map (λ p. p.now) all.old.items ++ job_mentions (job_tree job.now)) }
+// Adds what callees mention.
+fn add_callee_mentions<'a>(
+    callees: &'a [(ProcId, Callee)],
+    all: &mut Vec<&'a Poly>,
+) -> Result<(), NoMemory>
+    ensures { OnOk result (map (λ p. p.now) all.new.items ≡ map (λ p. p.now) all.old.items ++ flat_map (λ c. callee_mentions c.1) callees.now) }
 {
-    for callee in job.callees.as_slice() {
+    for callee in callees {
         callee.1.add_mentions(all)?;
     }
     Ok(())
