@@ -11,6 +11,10 @@ use Rattle.px_spelling.specs.ByPlace.{is_same, distinct, Differ, place_in, is_fi
 use Rattle.px_spelling.proofs.PlaceLemmas.{same_decides, same_itself, all_differ, found}
 use Rattle.px_spelling.proofs.IndexLemmas.{own_place, within}
 
+-- some polynomial
+pub nought : Polynomial
+nought = record { constant = 0; monomials = [] }
+
 -- ---- one more is mentioned
 
 -- one more, unless it is there
@@ -45,22 +49,23 @@ there false (Some m) = refl
 -- another one is there without what is the same as q, if it was there
 kept_there : (q p : Polynomial) (ps : List Polynomial) → is_same q p ≡ false → is_some (place_in (others q ps) p) ≡ is_some (place_in ps p)
 kept_there q p [] e = refl
-kept_there q p (r ∷ rs) e = by_same (is_same q r) refl
+kept_there q p (r ∷ rs) e = by_same (is_same q r) refl (kept_there q p rs e)
   where
-    by_same : (b : Bool) → is_same q r ≡ b → is_some (place_in (cond (not b) (r ∷ others q rs) (others q rs)) p) ≡ is_some (place_in (r ∷ rs) p)
-    by_same true same =
+    by_same : (b : Bool) → is_same q r ≡ b → is_some (place_in (others q rs) p) ≡ is_some (place_in rs p) → is_some (place_in (cond (not b) (r ∷ others q rs) (others q rs)) p) ≡ is_some (place_in (r ∷ rs) p)
+    by_same true same kept =
         let other : is_same r p ≡ false = subst (λ x. is_same x p ≡ false) ((same_decides q r).0 same) e in
-        kept_there q p rs e ∙ sym (there (is_same r p) (place_in rs p) ∙ rw other refl)
-    by_same false same =
-        there (is_same r p) (place_in (others q rs) p) ∙ ap (λ b. is_same r p || b) (kept_there q p rs e) ∙ sym (there (is_same r p) (place_in rs p))
+        let left : is_some (place_in (r ∷ rs) p) ≡ is_some (place_in rs p) = there (is_same r p) (place_in rs p) ∙ rw other refl in
+        kept ∙ sym left
+    by_same false same kept =
+        there (is_same r p) (place_in (others q rs) p) ∙ ap (λ b. is_same r p || b) kept ∙ sym (there (is_same r p) (place_in rs p))
 
 pub same_there : (ps : List Polynomial) (p : Polynomial) → is_some (place_in (distinct ps) p) ≡ is_some (place_in ps p)
 same_there [] p = refl
-same_there (q ∷ qs) p = there (is_same q p) (place_in (others q (distinct qs)) p) ∙ by_same (is_same q p) refl ∙ sym (there (is_same q p) (place_in qs p))
+same_there (q ∷ qs) p = there (is_same q p) (place_in (others q (distinct qs)) p) ∙ by_same (is_same q p) refl (same_there qs p) ∙ sym (there (is_same q p) (place_in qs p))
   where
-    by_same : (b : Bool) → is_same q p ≡ b → (b || is_some (place_in (others q (distinct qs)) p)) ≡ (b || is_some (place_in qs p))
-    by_same true e = refl
-    by_same false e = kept_there q p (distinct qs) e ∙ same_there qs p
+    by_same : (b : Bool) → is_same q p ≡ b → is_some (place_in (distinct qs) p) ≡ is_some (place_in qs p) → (b || is_some (place_in (others q (distinct qs)) p)) ≡ (b || is_some (place_in qs p))
+    by_same true e same = refl
+    by_same false e same = kept_there q p (distinct qs) e ∙ same
 
 -- ---- what is there first
 

@@ -1,5 +1,5 @@
 -- The first place of a polynomial, as it is found among places in their order.
-use Rattle.std.proofs.Common.{◌≡◌, ℕ, zero, suc, ◌+◌, ◌<◌, ◌≤◌, List, [], ◌∷◌, length, Bool, true, false, cond, Option, Some, None, refl, sym, ap, subst, ◌∙◌, ◌⊎◌, ⊎_elim, inl, inr, arith}
+use Rattle.std.proofs.Common.{◌≡◌, ℕ, zero, suc, ◌+◌, ◌<◌, ◌≤◌, List, [], ◌∷◌, ◌++◌, length, Bool, true, false, cond, Option, Some, None, refl, sym, ap, subst, ◌∙◌, ◌⊎◌, ⊎_elim, inl, inr, arith}
 use Rattle.std.specs.Prelude.{slice_get, slice_index_or}
 use Rattle.std.specs.List.{AllByRecursion, Contains}
 use Rattle.std.specs.List.Sorted.{IsSortedBy, IsPartitionedBy, IsPartitionPoint}
@@ -12,6 +12,7 @@ use Rattle.std.specs.Cmp.Lexicographic.{options_total}
 use Rattle.std.proofs.lemmas.Option.{same_Some}
 use Rattle.std.proofs.lemmas.Cmp.{nat_cmp_total, on_total, then_total, tied_itself, ranked}
 use Rattle.std.proofs.lemmas.List.{get_or_default}
+use Rattle.std.proofs.lemmas.List.Elements.{Contains-append_left, Contains-push}
 use Rattle.std.proofs.lemmas.List.Sorted.{ranks_by, sorted_far}
 use Rattle.px_terms.specs.Polynomials.{Polynomial}
 use Rattle.px_spelling.specs.ByPlace.{polynomial_cmp, is_same, Differ, place_in, order_at, place_cmp, IsIndex}
@@ -48,6 +49,20 @@ pub place_at_most : (ps : List Polynomial) (n : ℕ) (p : Polynomial) → slice_
 place_at_most [] n p e = absurd cc
 place_at_most (q ∷ qs) zero p e = at_front (is_same q p) (place_in qs p) (subst (λ x. is_same q x ≡ true) (same_Some q p e) (same_itself q))
 place_at_most (q ∷ qs) (suc n) p e = at_most (is_same q p) (place_in qs p) n (place_at_most qs n p e)
+
+below_or_not : (k i : ℕ) → (k < i) ⊎ (i ≤ k)
+below_or_not k zero = inr (omega arith)
+below_or_not zero (suc i) = inl (omega arith)
+below_or_not (suc k) (suc i) = ⊎_elim (λ l. inl (omega (arith, l))) (λ l. inr (omega (arith, l))) (below_or_not k i)
+
+-- each number below is there, and one more is added
+pub one_more_there : (ks more : List ℕ) (i : ℕ) → more ≡ ks ++ i ∷ [] → ((n : ℕ) → n < i → Contains ks n) → (n : ℕ) → n < i + 1 → Contains more n
+one_more_there ks more i e h n lt =
+    ⊎_elim (λ (l : n < i). subst (λ xs. Contains xs n) (sym e) (Contains-append_left ks (i ∷ []) n (h n l)))
+    (λ (l : i ≤ n).
+    let same : i ≡ n = omega arith in
+    subst (λ xs. Contains xs n) (sym e) (subst (λ m. Contains (ks ++ i ∷ []) m) same (Contains-push ks i)))
+    (below_or_not n i)
 
 -- ---- places in their order
 
@@ -151,11 +166,6 @@ behind ts ks p i m h end stands =
           (below_or_not k.0 i);
       is = k.2;
     }
-  where
-    below_or_not : (k i : ℕ) → (k < i) ⊎ (i ≤ k)
-    below_or_not k zero = inr (omega arith)
-    below_or_not zero (suc i) = inl (omega arith)
-    below_or_not (suc k) (suc i) = ⊎_elim (λ l. inl (omega (arith, l))) (λ l. inr (omega (arith, l))) (below_or_not k i)
 
 -- where each place is before it, it is nowhere
 pub past_all : (ts : List Polynomial) (ks : List ℕ) (p : Polynomial) (i : ℕ) → IsIndex ts ks → IsEndOf ts ks p i → length ks ≤ i → place_in ts p ≡ None

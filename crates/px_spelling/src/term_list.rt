@@ -1,4 +1,4 @@
-ghost use Rattle.std.specs.Prelude.{◌≡◌, ◌↔◌, true, map, IfOk, IfSome, IsSome};
+ghost use Rattle.std.specs.Prelude.{◌≡◌, ◌↔◌, true, length, map, IfOk, IfSome, IsSome};
 ghost use Rattle.px_spelling.specs.ByPlace.{distinct, Differ, place_in, IsIndex};
 
 use crate::places::{Lent, first_place, is_first_at, sorted_places};
@@ -50,6 +50,14 @@ impl TermList {
         self.terms.as_slice()
     }
 
+    /// How many they are. Takes no memory.
+    pub fn len(&self) -> usize
+        ensures count { result ≡ length self.now }
+        ensures differ { Differ self.now }
+    {
+        self.terms.len()
+    }
+
     /// The place of a polynomial, if it is among them. Takes no memory.
     pub fn place(&self, polynomial: &Poly) -> Option<usize>
         ensures { result ≡ place_in self.now polynomial.now }
@@ -61,6 +69,7 @@ impl TermList {
     pub fn lists(&self, mentions: &[&Poly]) -> bool
         ensures { result ≡ true ↔ distinct (map (λ p. p.now) mentions.now) ≡ self.now }
     {
+        let most = self.len();
         let mut count = 0;
         for mention in mentions {
             let Some(place) = self.place(mention) else {
@@ -73,7 +82,7 @@ impl TermList {
                 count += 1;
             }
         }
-        count == self.as_slice().len()
+        count == most
     }
 }
 

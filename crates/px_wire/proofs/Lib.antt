@@ -4,3 +4,4 @@ pub mod LimitTest
 pub mod JobRoundTrips
 pub mod MessageRanges
 pub mod MessageRoundTrips
+pub mod Listed

@@ -175,7 +175,6 @@ fn read_large<'a, S: Terms>(
     ensures reads { Gives (λ x. (said_tree x.0, x.1.now)) result (large_at bytes.now) }
     ensures spelled { IfOk result (λ x. AreFields (S.spelling terms.now) 2 bytes.now (said_tree x.0) x.1.now) }
 {
-    let _spelling = terms;
     let (ticket, rest) = u64::read(alloc, bytes)?;
     Ok((Said::Large { ticket }, rest))
 }

@@ -29,7 +29,7 @@ fn are_terms_few(message: &Message) -> bool
 {
     match message.terms() {
         None => true,
-        Some(terms) => terms.as_slice().len() <= u32::MAX as usize,
+        Some(terms) => terms.len() <= u32::MAX as usize,
     }
 }
 
