@@ -98,6 +98,17 @@ first_more ps i d lt =
     let first : is_some (place_in (take i ps) (get_or ps i d)) ≡ not (is_first_at ps i) = rw stands (not_before ps i (get_or ps i d) stands) in
     ap distinct (take_more ps i d lt) ∙ distinct_more (take i ps) (get_or ps i d) ∙ ap (λ b. grown b (distinct (take i ps)) (get_or ps i d)) first
 
+-- what is there first is added
+pub added : (ps old new : List Polynomial) (i : ℕ) (p : Polynomial) → i < length ps → is_first_at ps i ≡ true → get_or ps i nought ≡ p → old ≡ distinct (take i ps) → new ≡ old ++ p ∷ [] → new ≡ distinct (take (i + 1) ps)
+added ps old new i p lt first own so_far is =
+    let more : distinct (take (i + 1) ps) ≡ distinct (take i ps) ++ get_or ps i nought ∷ [] = first_more ps i nought lt ∙ ap (λ b. grown (not b) (distinct (take i ps)) (get_or ps i nought)) first in
+    is ∙ ap (λ xs. xs ++ p ∷ []) so_far ∙ ap (λ x. distinct (take i ps) ++ x ∷ []) (sym own) ∙ sym more
+
+pub not_added : (ps old new : List Polynomial) (i : ℕ) → i < length ps → is_first_at ps i ≡ false → old ≡ distinct (take i ps) → new ≡ old → new ≡ distinct (take (i + 1) ps)
+not_added ps old new i lt later so_far is =
+    let same : distinct (take (i + 1) ps) ≡ distinct (take i ps) = first_more ps i nought lt ∙ ap (λ b. grown (not b) (distinct (take i ps)) (get_or ps i nought)) later in
+    is ∙ so_far ∙ sym same
+
 -- where no two are the same, each is there first
 pub differ_first : (ps : List Polynomial) (i : ℕ) (d : Polynomial) → Differ ps → i < length ps → is_first_at ps i ≡ true
 differ_first ps i d h lt = rw (stands_at ps i d lt, own_place ps i (get_or ps i d) h (stands_at ps i d lt)) (itself i)

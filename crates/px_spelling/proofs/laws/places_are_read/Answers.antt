@@ -1,5 +1,3 @@
-use Rattle.px_spelling.proofs.Growing.{grown}
-use Rattle.px_spelling.proofs.IndexLemmas.{own_place}
 use Rattle.px_spelling.specs.Polynomials.{in_full}
 use Rattle.px_spelling.specs.ByPlace.{distinct, by_place}
 use Rattle.px_spelling.specs.Mentions.{table_mentions, callee_mentions}
