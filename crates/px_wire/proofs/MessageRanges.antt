@@ -16,7 +16,7 @@ use Rattle.px_wire.specs.MessageTrees.{MessageTree, request, reply, large}
 use Rattle.px_wire.specs.Mentions.{mentions, terms_of}
 use Rattle.px_wire.specs.Messages.{IsSaid, IsMessage}
 
-known_ranges : Ranges IsKnown (λ c. callee_mentions c.1)
+known_ranges : Ranges IsKnown (λ (c : ProcId × Callee). callee_mentions c.1)
 known_ranges = record {
   named = λ p c fits. callee_ranges.named p c.1 fits.1;
   moved = λ p q c fits all. (fits.0, callee_ranges.moved p q c.1 fits.1 all);

@@ -1,5 +1,5 @@
-//! The wire: the messages between the parent and its workers, and their bytes. `decode` gives the message that bytes
-//! spell, and refuses exactly those that spell none in range; each message has one spelling.
+//! The wire: the messages between the parent and its workers, and their bytes in two versions. `decode` gives the message
+//! that bytes spell, and refuses exactly those that spell none in range; each message has one spelling a version.
 //!
 //! `specs/` says which bytes spell a message, as a relation, and what is read in bytes, as a function. Whether
 //! what a message names by a number is there is asked by tests of ranges, which take no memory: the variables of an entry
