@@ -5,6 +5,7 @@ use Rattle.px_base.specs.Bounds.{most_conjuncts, most_atoms}
 use Rattle.std.specs.List.{flat_map, AllByRecursion}
 use Rattle.std.proofs.lemmas.List.Concat.{flat_map-cons}
 use Rattle.px_terms.specs.Polynomials.{Polynomial}
+use Rattle.px_terms.proofs.Recursion.{all_both}
 use Rattle.px_terms.specs.declared.conjuncts.Content.{Content}
 use Rattle.px_terms.specs.declared.conjuncts.Content.TheVariants as C
 use Rattle.px_terms.specs.declared.conjuncts.Conj.{Conj}
@@ -32,31 +33,23 @@ pub record Ranges {A : Type 0} (fits : PolynomialSpelling → A → Type 0) (men
 
 -- ---- lists
 
-pub all_joined : {A : Type 0} (P : A → Type 0) (xs ys : List A) → AllByRecursion P xs → AllByRecursion P ys → AllByRecursion P (xs ++ ys)
-all_joined P [] ys a b = b
-all_joined P (x ∷ xs) ys a b = (a.0, all_joined P xs ys a.1 b)
-
-pub all_first : {A : Type 0} (P : A → Type 0) (xs ys : List A) → AllByRecursion P (xs ++ ys) → AllByRecursion P xs
-all_first P [] ys all = tt
-all_first P (x ∷ xs) ys all = (all.0, all_first P xs ys all.1)
-
-pub all_second : {A : Type 0} (P : A → Type 0) (xs ys : List A) → AllByRecursion P (xs ++ ys) → AllByRecursion P ys
-all_second P [] ys all = all
-all_second P (x ∷ xs) ys all = all_second P xs ys all.1
+pub all_parts : {A : Type 0} (P : A → Type 0) (xs ys : List A) → AllByRecursion P (xs ++ ys) → AllByRecursion P xs × AllByRecursion P ys
+all_parts P [] ys all = (tt, all)
+all_parts P (x ∷ xs) ys all = let rest = all_parts P xs ys all.1 in ((all.0, rest.0), rest.1)
 
 module _ {A : Type 0} {fits : PolynomialSpelling → A → Type 0} {mentions : A → List Polynomial} (item : Ranges fits mentions) where
   each_named : (p : PolynomialSpelling) (xs : List A) → AllByRecursion (fits p) xs → AllByRecursion p.fits (flat_map mentions xs)
   each_named p [] all = tt
   each_named p (x ∷ xs) all =
       subst (AllByRecursion p.fits) (sym (flat_map-cons mentions x xs))
-      (all_joined p.fits (mentions x) (flat_map mentions xs) (item.named p x all.0) (each_named p xs all.1))
+      (all_both p.fits (mentions x) (flat_map mentions xs) (item.named p x all.0) (each_named p xs all.1))
 
   each_moved : (p q : PolynomialSpelling) (xs : List A) → AllByRecursion (fits p) xs → AllByRecursion q.fits (flat_map mentions xs) → AllByRecursion (fits q) xs
   each_moved p q [] all others = tt
   each_moved p q (x ∷ xs) all others =
       let both = subst (AllByRecursion q.fits) (flat_map-cons mentions x xs) others in (
-        item.moved p q x all.0 (all_first q.fits (mentions x) (flat_map mentions xs) both),
-        each_moved p q xs all.1 (all_second q.fits (mentions x) (flat_map mentions xs) both),
+        item.moved p q x all.0 ((all_parts q.fits (mentions x) (flat_map mentions xs) both).0),
+        each_moved p q xs all.1 ((all_parts q.fits (mentions x) (flat_map mentions xs) both).1),
       )
 
   pub list_ranges : (most : ℕ) → Ranges (λ p. IsList (fits p) most) (flat_map mentions)
@@ -142,7 +135,7 @@ atom_ranges = record {
 
 -- four lists
 pub joined4 : (P : Polynomial → Type 0) (a b c d : List Polynomial) → AllByRecursion P a → AllByRecursion P b → AllByRecursion P c → AllByRecursion P d → AllByRecursion P (a ++ b ++ c ++ d)
-joined4 P a b c d u v w x = all_joined P (a ++ b ++ c) d (all_joined P (a ++ b) c (all_joined P a b u v) w) x
+joined4 P a b c d u v w x = all_both P (a ++ b ++ c) d (all_both P (a ++ b) c (all_both P a b u v) w) x
 
 pure_ranges : Ranges (λ p. IsList (IsConj p) most_conjuncts) (flat_map conj_mentions)
 pure_ranges = list_ranges conj_ranges most_conjuncts
@@ -164,16 +157,16 @@ entry_ranges = record { named = named; moved = moved }
         let pure = flat_map conj_mentions e.pure in
         let pre = flat_map atom_mentions e.pre in
         let post = flat_map atom_mentions e.post in
-        let three = all_first q.fits (given ++ pure ++ pre) post all in
-        let two = all_first q.fits (given ++ pure) pre three in (
+        let three = (all_parts q.fits (given ++ pure ++ pre) post all).0 in
+        let two = (all_parts q.fits (given ++ pure) pre three).0 in (
           fits.0,
           fits.1,
           fits.2,
-          result_ranges.moved p q e.result fits.3 (all_first q.fits given pure two),
+          result_ranges.moved p q e.result fits.3 ((all_parts q.fits given pure two).0),
           fits.4,
-          pure_ranges.moved p q e.pure fits.5 (all_second q.fits given pure two),
-          atoms_ranges.moved p q e.pre fits.6 (all_second q.fits (given ++ pure) pre three),
-          atoms_ranges.moved p q e.post fits.7 (all_second q.fits (given ++ pure ++ pre) post all),
+          pure_ranges.moved p q e.pure fits.5 ((all_parts q.fits given pure two).1),
+          atoms_ranges.moved p q e.pre fits.6 ((all_parts q.fits (given ++ pure) pre three).1),
+          atoms_ranges.moved p q e.post fits.7 ((all_parts q.fits (given ++ pure ++ pre) post all).1),
           fits.8,
         )
 
@@ -213,15 +206,15 @@ table_ranges = record { named = named; moved = moved }
   where
     named : (p : PolynomialSpelling) (t : Table) → IsTable p t → AllByRecursion p.fits (table_mentions t)
     named p t fits =
-        all_joined p.fits (flat_map entry_mentions t.entries) (flat_map gap_mentions t.drops)
+        all_both p.fits (flat_map entry_mentions t.entries) (flat_map gap_mentions t.drops)
         ((list_ranges entry_ranges most_rows).named p t.entries fits.0) ((list_ranges gap_ranges (most_rows - length t.entries)).named p t.drops fits.1)
 
     moved : (p q : PolynomialSpelling) (t : Table) → IsTable p t → AllByRecursion q.fits (table_mentions t) → IsTable q t
     moved p q t fits all =
         let entries = flat_map entry_mentions t.entries in
         let drops = flat_map gap_mentions t.drops in (
-          (list_ranges entry_ranges most_rows).moved p q t.entries fits.0 (all_first q.fits entries drops all),
-          (list_ranges gap_ranges (most_rows - length t.entries)).moved p q t.drops fits.1 (all_second q.fits entries drops all),
+          (list_ranges entry_ranges most_rows).moved p q t.entries fits.0 ((all_parts q.fits entries drops all).0),
+          (list_ranges gap_ranges (most_rows - length t.entries)).moved p q t.drops fits.1 ((all_parts q.fits entries drops all).1),
         )
 
 pub callee_ranges : Ranges IsCallee callee_mentions
