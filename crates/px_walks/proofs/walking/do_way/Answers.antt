@@ -1,4 +1,4 @@
-use Rattle.std.proofs.Common.{ap, sym, ◌∙◌}
+use Rattle.std.proofs.Common.{ap, sym, ◌∙◌, Some}
 use Rattle.std.proofs.lemmas.Result.{IfOk-weaker}
 use Rattle.px_callgraph.specs.JobTree.{job_tree}
 use Rattle.px_walks.specs.Items.{items_of}
@@ -17,5 +17,5 @@ pub returns-in-Some-clause-leads : goal.returns-in-Some-clause-leads
 returns-in-Some-clause-leads c =
     let a = c.args in
     IfOk-weaker c.do_call.result _ _
-    (λ to e. some_call (job_tree a.job.now) (call_in a.call.now) c.in-Some.going.value (items_of a.control.now.items) a.state.now a.way _ (ap call_in (sym c.take.ensures.value ∙ c.in-Some.is)) (e (items_of a.control.now.items)))
+    (λ to e. some_call (job_tree a.job.now) (call_in a.call.now) c.into_inner.result (items_of a.control.now.items) a.state.now a.way _ (ap call_in (sym c.take.ensures.value ∙ c.in-Some.is) ∙ ap Some (sym c.into_inner.ensures)) (e (items_of a.control.now.items)))
     c.do_call.ensures.leads
