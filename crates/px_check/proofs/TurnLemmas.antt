@@ -26,7 +26,7 @@ use Rattle.px_match.proofs.PathLimitLemmas as limits
 use Rattle.px_check.specs.Steps.{is_call, named_way, take_named, is_call_rule, is_step_that, is_end}
 use Rattle.px_check.specs.declared.turns.Turn.{Turn}
 use Rattle.px_check.specs.declared.turns.Turn.TheVariants.{Goes, Fails}
-use Rattle.px_check.specs.Courses.{AreBetween, IsUse, IsBehindUse, IsTurn, TakesTurn}
+use Rattle.px_check.specs.Courses.{IsUse, IsBehindUse, TakesTurn}
 use Rattle.px_walks.proofs.NextLemmas.{is_items}
 use Rattle.px_check.proofs.StepLemmas.{named_step, whole_call, by_rule, call_step}
 

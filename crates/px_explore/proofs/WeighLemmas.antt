@@ -17,7 +17,7 @@ use Rattle.px_explore.specs.declared.stops.Fork.{Fork}
 use Rattle.px_explore.specs.declared.stops.Stop.{Stop}
 use Rattle.px_explore.specs.declared.stops.Stop.TheVariants as S
 use Rattle.px_explore.specs.Stops.{prefix_of}
-use Rattle.std.specs.Prelude.{Result, Ok, Err, IfOk, OnOk}
+use Rattle.std.specs.Prelude.{Result, IfOk}
 use Rattle.std.specs.List.{list_all}
 use Rattle.px_terms.proofs.Tests.{never_both}
 use Rattle.px_plain.specs.Held.{HeldItem, held_vars, held_conjuncts}

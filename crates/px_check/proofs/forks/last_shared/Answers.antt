@@ -1,4 +1,4 @@
-use Rattle.std.proofs.Common.{Some, None}
+use Rattle.std.proofs.Common.{Some}
 use Rattle.std.proofs.lemmas.List.Elements.{All-pop}
 use Rattle.px_check.specs.Follows.{IsForkOf}
 use Rattle.px_check.proofs.ForkLemmas.{fork_for}

@@ -1,4 +1,4 @@
-use Rattle.std.proofs.Common.{Some, None, refl}
+use Rattle.std.proofs.Common.{refl}
 use Rattle.std.proofs.lemmas.Option.{slice_get_read}
 use Rattle.px_callgraph.specs.JobTree.{job_tree}
 use Rattle.px_walks.specs.Walks.{walk_of}
