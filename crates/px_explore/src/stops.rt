@@ -2,6 +2,7 @@ ghost use Rattle.std.specs.Prelude.{◌≡◌, ◌≤◌, length, IfOk, OnOk};
 ghost use Rattle.px_base.specs.Bounds.{most_variables};
 ghost use Rattle.px_core.specs.BodyTree.{body_tree};
 ghost use Rattle.px_callgraph.specs.JobTree.{job_tree};
+ghost use Rattle.px_callgraph.specs.declared.outcomes.StepOutcome.TheVariants as outcome;
 ghost use Rattle.px_callgraph.specs.Alternatives as spec;
 ghost use Rattle.px_callgraph.specs.ActsLeft.{state_of};
 ghost use Rattle.px_walks.specs.Walks.{walk_of, leads_of};
@@ -15,8 +16,9 @@ ghost use Rattle.px_explore.specs.Trails.{IsAfter};
 use crate::taken::put_steps;
 use px_callgraph::{Job, State, StepOutcome, Way};
 use px_entry::{Exit, Gap, Step};
+use px_steps::Led;
 use px_terms::{Content, Items, NoMemory};
-use px_walks::{Walk, act, ways};
+use px_walks::{Walk, act, act_in, ways};
 use std::alloc::Global;
 use std::mem::replace;
 
@@ -50,26 +52,46 @@ pub(crate) fn run_on<'a>(
     ensures after { IfOk result (λ stop. IsAfter (state_of (leads_of from.entry)) (stop_of (prefix_of stop))) }
     ensures stop { IfOk result (λ stop. IsStop (job_tree job.now) (paths (job_tree job.now) steps.old (leads_of from.entry)) steps.new stop) }
 {
-    let mut here = from;
+    match from {
+        StepOutcome::Next(walk) => walk_on(alloc, job, walk, steps),
+        StepOutcome::Ends(state, exit, result) => Ok(Stop::Ended(state, exit, result)),
+        StepOutcome::Cut(state, gap) => Ok(Stop::Dropped(state, gap)),
+        StepOutcome::Past(state) => Ok(Stop::Past(state)),
+    }
+}
+
+// The same from where a walk stands. It is changed in its place.
+fn walk_on<'a>(
+    alloc: Global,
+    job: &'a Job,
+    from: Walk<'a>,
+    steps: &mut Items<Step>,
+) -> Result<Stop<'a>, NoMemory>
+    requires parameters { length job.now.body.parameters ≤ most_variables }
+    requires stands { Stands (job_tree job.now) (outcome.Next (walk_of from)) }
+    ensures after { IfOk result (λ stop. IsAfter from.entry.state (stop_of (prefix_of stop))) }
+    ensures stop { IfOk result (λ stop. IsStop (job_tree job.now) (paths (job_tree job.now) steps.old (outcome.Next (walk_of from.entry))) steps.new stop) }
+{
+    let mut walk = from;
     loop {
-        match here {
-            StepOutcome::Next(walk) => {
-                let listed = ways(alloc, job, &walk)?;
-                if listed.len() == 0 {
-                    return Ok(Stop::Dead(walk.state));
-                }
-                if listed.len() > 1 {
-                    return Ok(Stop::Choice(Fork {
-                        walk,
-                        steps: replace(steps, Items::new(alloc)),
-                        ways: listed,
-                    }));
-                }
-                here = take(alloc, job, walk, listed[0], steps)?;
-            }
-            StepOutcome::Ends(state, exit, result) => return Ok(Stop::Ended(state, exit, result)),
-            StepOutcome::Cut(state, gap) => return Ok(Stop::Dropped(state, gap)),
-            StepOutcome::Past(state) => return Ok(Stop::Past(state)),
+        let listed = ways(alloc, job, &walk)?;
+        if listed.len() == 0 {
+            return Ok(Stop::Dead(walk.state));
+        }
+        if listed.len() > 1 {
+            return Ok(Stop::Choice(Fork {
+                walk,
+                steps: replace(steps, Items::new(alloc)),
+                ways: listed,
+            }));
+        }
+        let way = listed[0];
+        put_steps(alloc, &walk, way, steps)?;
+        match act_in(alloc, job, &mut walk, way)? {
+            Some(Led::Goes) => {}
+            Some(Led::Ends(exit, result)) => return Ok(Stop::Ended(walk.state, exit, result)),
+            Some(Led::Cut(gap)) => return Ok(Stop::Dropped(walk.state, gap)),
+            None => return Ok(Stop::Past(walk.state)),
         }
     }
 }
