@@ -1,5 +1,5 @@
 -- A path that goes on by the way that is listed alone.
-use Rattle.std.proofs.Common.{◌≡◌, ◌<◌, ◌≤◌, List, length, get_or, Option, refl, sym, ap, ◌∙◌}
+use Rattle.std.proofs.Common.{◌≡◌, ◌<◌, ◌≤◌, List, [], ◌∷◌, length, Option, refl, sym, ap, subst, ◌∙◌}
 use Rattle.px_entry.specs.declared.derivations.Step.{Step}
 use Rattle.px_callgraph.specs.declared.states.State.{State}
 use Rattle.px_callgraph.specs.declared.states.Way.{Way}
@@ -12,18 +12,23 @@ use Rattle.px_walks.specs.Walks.{at_walk}
 use Rattle.px_explore.specs.Stands.{IsOn}
 use Rattle.px_explore.specs.Taken.{steps_with}
 use Rattle.px_explore.specs.Paths.{Path}
+use Rattle.px_explore.specs.declared.stops.Listed.{Listed}
+use Rattle.px_explore.specs.Stops.{AreListed}
 use Rattle.px_explore.proofs.AfterLemmas.{after_alone}
 use Rattle.px_explore.proofs.StandLemmas.{stands_alone}
 use Rattle.px_explore.proofs.StopLemmas.{alone, less}
 
+pub listed_as : (names : List Way) (l m : Listed) → AreListed names l → l ≡ m → AreListed names m
+listed_as names l m h e = subst (AreListed names) e h
+
 -- what an act leaves in the place of a walk, and where that leads
-pub on_led : (j : JobTree) (s : State) (ps : List Path) (w v : Walk) (listed : List Way) (name : Way) (steps new : List Step) (led is : Option Led) → length j.body.parameters ≤ 8192 →
-    listed ≡ ways j w → length listed ≡ 1 → name ≡ get_or listed 0 name → at_walk led v ≡ act j w name → new ≡ steps_with w name steps → led ≡ is → IsOn j s ps steps (Next w) → IsOn j s ps new (at_walk is v)
-on_led j s ps w v listed name steps new led is few l h g a t e on =
+pub on_led : (j : JobTree) (s : State) (ps : List Path) (w v : Walk) (name : Way) (steps new : List Step) (led is : Option Led) → length j.body.parameters ≤ 8192 →
+    ways j w ≡ name ∷ [] → at_walk led v ≡ act j w name → new ≡ steps_with w name steps → led ≡ is → IsOn j s ps steps (Next w) → IsOn j s ps new (at_walk is v)
+on_led j s ps w v name steps new led is few l a t e on =
     let to : at_walk is v ≡ act j w name = ap (λ z. at_walk z v) (sym e) ∙ a in record {
-      stands = stands_alone j (Next w) (at_walk is v) w listed name few refl l h g to on.stands;
+      stands = stands_alone j (Next w) (at_walk is v) w (name ∷ []) name few refl (sym l) refl refl to on.stands;
       after = after_alone j s (Next w) (at_walk is v) w name refl to on.after;
-      same = alone j (Next w) (at_walk is v) w listed name steps new ps refl l h g to t on.same;
+      same = alone j (Next w) (at_walk is v) w (name ∷ []) name steps new ps refl (sym l) refl refl to t on.same;
     }
 
 pub fewer : (j : JobTree) (w v : Walk) (name : Way) (led is : Option Led) → at_walk led v ≡ act j w name → led ≡ is → acts_left_of j (at_walk is v) < acts_left_of j (Next w)

@@ -10,7 +10,7 @@ ghost use Rattle.px_symexec.specs.Prefixes.{stop_of};
 ghost use Rattle.px_explore.specs.Stands.{Stands};
 ghost use Rattle.px_explore.specs.Taken.{steps_with};
 ghost use Rattle.px_explore.specs.Paths.{paths};
-ghost use Rattle.px_explore.specs.Stops.{prefix_of, IsStop};
+ghost use Rattle.px_explore.specs.Stops.{prefix_of, AreListed, IsStop};
 ghost use Rattle.px_explore.specs.Trails.{IsAfter};
 
 use crate::taken::put_steps;
@@ -18,7 +18,7 @@ use px_callgraph::{Job, State, StepOutcome, Way};
 use px_entry::{Exit, Gap, Step};
 use px_steps::Led;
 use px_terms::{Content, Items, NoMemory};
-use px_walks::{Walk, act, act_in, ways};
+use px_walks::{Walk, act, act_in, goes_on, ways};
 use std::alloc::Global;
 use std::mem::replace;
 
@@ -38,6 +38,28 @@ pub(crate) struct Fork<'a> {
     pub(crate) walk: Walk<'a>,
     pub(crate) steps: Items<Step>,
     pub(crate) ways: Vec<Way>,
+}
+
+// The ways that are listed where a path stands.
+enum Listed {
+    Nothing,
+    One(Way),
+    Several(Vec<Way>),
+}
+
+// What is listed where a path stands. Of one way alone no list is made, where that is seen.
+fn next_ways(alloc: Global, job: &Job, walk: &Walk) -> Result<Listed, NoMemory>
+    ensures { IfOk result (λ l. AreListed (spec.ways (job_tree job.now) (walk_of walk.now)) l) }
+{
+    if goes_on(job, walk) {
+        return Ok(Listed::One(Way::On));
+    }
+    let all = ways(alloc, job, walk)?;
+    match all.as_slice() {
+        [] => Ok(Listed::Nothing),
+        [way] => Ok(Listed::One(*way)),
+        _ => Ok(Listed::Several(all)),
+    }
 }
 
 // Goes on as long as one way is listed alone, and puts its steps after those so far. A point of choice takes them all.
@@ -74,18 +96,17 @@ fn walk_on<'a>(
 {
     let mut walk = from;
     loop {
-        let listed = ways(alloc, job, &walk)?;
-        if listed.len() == 0 {
-            return Ok(Stop::Dead(walk.state));
-        }
-        if listed.len() > 1 {
-            return Ok(Stop::Choice(Fork {
-                walk,
-                steps: replace(steps, Items::new(alloc)),
-                ways: listed,
-            }));
-        }
-        let way = listed[0];
+        let way = match next_ways(alloc, job, &walk)? {
+            Listed::Nothing => return Ok(Stop::Dead(walk.state)),
+            Listed::Several(ways) => {
+                return Ok(Stop::Choice(Fork {
+                    walk,
+                    steps: replace(steps, Items::new(alloc)),
+                    ways,
+                }));
+            }
+            Listed::One(way) => way,
+        };
         put_steps(alloc, &walk, way, steps)?;
         match act_in(alloc, job, &mut walk, way)? {
             Some(Led::Goes) => {}
