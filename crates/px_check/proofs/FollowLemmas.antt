@@ -10,11 +10,11 @@ use Rattle.px_callgraph.specs.Alternatives.{Walk, Leads, at, start}
 use Rattle.px_callgraph.specs.ActsLeft.{acts_left}
 use Rattle.px_callgraph.specs.Laws.{at_start}
 use Rattle.px_callgraph.specs.Derivations.{at_end, fails_next, course, RunsTo}
-use Rattle.px_walks.specs.Walks.{walk_of, leads_of}
-use Rattle.px_callgraph.specs.declared.outcomes.StepOutcome.{StepOutcome}
-use Rattle.px_walks.specs.declared.walk.Walk.{Walk as WalkOf}
+use Rattle.px_steps.specs.declared.led.Led.{Led}
+use Rattle.px_steps.specs.declared.led.Led.TheVariants as act
+use Rattle.px_check.specs.Leading.{lead_at}
 use Rattle.px_check.specs.declared.turns.Turn.{Turn}
-use Rattle.px_check.specs.declared.turns.Turn.TheVariants.{Goes, Fails}
+use Rattle.px_check.specs.declared.turns.Turn.TheVariants.{Taken, Fails}
 use Rattle.px_check.specs.Courses.{turned, TakesTurn}
 use Rattle.px_check.proofs.TakeLemmas.{IsSound}
 use Rattle.px_check.proofs.FreeLemmas.{IsFree}
@@ -41,22 +41,21 @@ pub begins : (j : JobTree) (steps : List Step) (w : Walk) → w ≡ start j → 
 begins j steps w e = subst (λ z. Follows j steps 0 (Next z)) (sym e) (begins_there j steps)
 
 module _ (j : JobTree) (steps : List Step) (i : ℕ) (w : Walk) (h : Follows j steps i (Next w)) where
-  pub goes : (next : ℕ) (a : StepOutcome WalkOf) → TakesTurn j w i (Goes next a) → ((n : ℕ) → course (suc n) j i (drop i steps) (Next w) ≡ turned n j steps (Goes next a)) →
-      Follows j steps next (leads_of a)
-  goes next a t e =
-      let k = turn_kept j w (leads_of a) h.free h.sound t.1 in
+  pub goes : (next : ℕ) (v : Walk) (led : Led) → TakesTurn j w i v (Taken next led) → ((n : ℕ) → course (suc n) j i (drop i steps) (Next w) ≡ turned n j steps v (Taken next led)) → Follows j steps next (lead_at v led)
+  goes next v led t e =
+      let k = turn_kept j w (lead_at v led) h.free h.sound t.1 in
       record {
         rest = λ n. let r = h.rest (suc n) in (r.0, r.1 ∙ e n);
         sound = k.sound;
         free = k.free;
-        few = still_few i next (acts_left (alone j) (at w.control w.state)) (turns_left_of j (leads_of a)) h.few t.0 k.few;
+        few = still_few i next (acts_left (alone j) (at w.control w.state)) (turns_left_of j (lead_at v led)) h.few t.0 k.few;
       }
 
-  pub falls : (next : ℕ) (a : StepOutcome WalkOf) → TakesTurn j w i (Goes next a) → turns_left_of j (leads_of a) < turns_left_of j (Next w)
-  falls next a t = let k = turn_kept j w (leads_of a) h.free h.sound t.1 in let l = k.few in omega (arith, l)
+  pub falls : (next : ℕ) (v : Walk) (led : Led) → TakesTurn j w i v (Taken next led) → turns_left_of j (lead_at v led) < turns_left_of j (Next w)
+  falls next v led t = let k = turn_kept j w (lead_at v led) h.free h.sound t.1 in let l = k.few in omega (arith, l)
 
-  pub fails : (next : ℕ) → ((n : ℕ) → course (suc n) j i (drop i steps) (Next w) ≡ turned n j steps (Fails next)) → RunsTo j steps (fails_next next (drop next steps))
-  fails next e = let r = h.rest 1 in (r.0, r.1 ∙ e 0)
+  pub fails : (next : ℕ) (v : Walk) → ((n : ℕ) → course (suc n) j i (drop i steps) (Next w) ≡ turned n j steps v (Fails next)) → RunsTo j steps (fails_next next (drop next steps))
+  fails next v e = let r = h.rest 1 in (r.0, r.1 ∙ e 0)
 
 pub ends_there : (j : JobTree) (steps : List Step) (i : ℕ) (s : State) (exit : Exit) (r : Option Content) → Follows j steps i (Ends s exit r) → RunsTo j steps (at_end i s exit r (drop i steps))
 ends_there j steps i s exit r h = h.rest 1
@@ -66,20 +65,20 @@ is_cut j steps i a h e = let r = h.rest 1 in (r.0, r.1 ∙ e)
 
 -- ---- by what the code keeps
 
-module _ (j : JobTree) (steps : List Step) (i : ℕ) (leads : StepOutcome WalkOf) (w : WalkOf) (h : Follows j steps i (leads_of leads)) (is : leads ≡ Next w) where
-  here : Follows j steps i (Next (walk_of w))
-  here = subst (λ z. Follows j steps i (leads_of z)) is h
+module _ (j : JobTree) (steps : List Step) (i : ℕ) (w : Walk) (led : Led) (h : Follows j steps i (lead_at w led)) (is : led ≡ act.Goes) where
+  here : Follows j steps i (Next w)
+  here = subst (λ z. Follows j steps i (lead_at w z)) is h
 
-  abbrev Turns : Turn → Type 0
-  Turns t = TakesTurn j (walk_of w) i t × ((n : ℕ) → course (suc n) j i (drop i steps) (Next (walk_of w)) ≡ turned n j steps t)
+  abbrev Turns : Walk → Turn → Type 0
+  Turns v t = TakesTurn j w i v t × ((n : ℕ) → course (suc n) j i (drop i steps) (Next w) ≡ turned n j steps v t)
 
-  pub goes_by : (t : Turn) (next : ℕ) (to : StepOutcome WalkOf) → Turns t → t ≡ Goes next to → Follows j steps next (leads_of to)
-  goes_by t next to k e = let r = subst (λ z. Turns z) e k in goes j steps i (walk_of w) here next to r.0 r.1
+  pub goes_by : (v : Walk) (t : Turn) (next : ℕ) (to : Led) → Turns v t → t ≡ Taken next to → Follows j steps next (lead_at v to)
+  goes_by v t next to k e = let r = subst (λ z. Turns v z) e k in goes j steps i w here next v to r.0 r.1
 
-  pub falls_by : (t : Turn) (next : ℕ) (to : StepOutcome WalkOf) → Turns t → t ≡ Goes next to → turns_left_of j (leads_of to) < turns_left_of j (leads_of leads)
-  falls_by t next to k e =
-      let r = subst (λ z. Turns z) e k in
-      subst (λ z. turns_left_of j (leads_of to) < turns_left_of j (leads_of z)) (sym is) (falls j steps i (walk_of w) here next to r.0)
+  pub falls_by : (v : Walk) (t : Turn) (next : ℕ) (to : Led) → Turns v t → t ≡ Taken next to → turns_left_of j (lead_at v to) < turns_left_of j (lead_at w led)
+  falls_by v t next to k e =
+      let r = subst (λ z. Turns v z) e k in
+      subst (λ z. turns_left_of j (lead_at v to) < turns_left_of j (lead_at w z)) (sym is) (falls j steps i w here next v to r.0)
 
-  pub fails_by : (t : Turn) (next : ℕ) → Turns t → t ≡ Fails next → RunsTo j steps (fails_next next (drop next steps))
-  fails_by t next k e = let r = subst (λ z. Turns z) e k in fails j steps i (walk_of w) here next r.1
+  pub fails_by : (v : Walk) (t : Turn) (next : ℕ) → Turns v t → t ≡ Fails next → RunsTo j steps (fails_next next (drop next steps))
+  fails_by v t next k e = let r = subst (λ z. Turns v z) e k in fails j steps i w here next v r.1

@@ -19,9 +19,6 @@ use Rattle.px_callgraph.specs.Alternatives.{Walk, Leads}
 use Rattle.px_callgraph.specs.Derivations.{Course, fails_at, comes_to, at_end, uses_atom, onward, fails_next, by_use, by_step, by_item, use_rule, item_step, take_listed, is_silent, course}
 use Rattle.px_walks.specs.declared.control.Upcoming.{Upcoming}
 use Rattle.px_walks.specs.Nexts.{items_from, IsNext}
-use Rattle.px_walks.specs.Walks.{leads_of}
-use Rattle.px_callgraph.specs.declared.outcomes.StepOutcome.{StepOutcome}
-use Rattle.px_walks.specs.declared.walk.Walk.{Walk as WalkOf}
 use Rattle.px_check.specs.Steps.{is_call, named_way, take_named, is_call_rule, is_step_that, is_end}
 use Rattle.px_check.specs.declared.turns.Turn.{Turn}
 use Rattle.px_check.specs.Courses.{turned, used, TakesTurn}
@@ -43,8 +40,7 @@ gone (y ∷ ys) (suc i) e = gone ys i e
 
 -- ---- what takes no step
 
-pub silent_goes : (j : JobTree) (n i : ℕ) (steps : List Step) (w : Walk) (a : StepOutcome WalkOf) → Some (leads_of a) ≡ take_listed j w way.On →
-    by_item j (course n j) i steps w true ≡ course n j i steps (leads_of a)
+pub silent_goes : (j : JobTree) (n i : ℕ) (steps : List Step) (w : Walk) (a : Leads) → Some a ≡ take_listed j w way.On → by_item j (course n j) i steps w true ≡ course n j i steps a
 silent_goes j n i steps w a e = ap (onward (fails_next i steps) (course n j i steps)) (sym e)
 
 pub silent_fails : (j : JobTree) (n i : ℕ) (steps : List Step) (w : Walk) → None ≡ take_listed j w way.On → by_item j (course n j) i steps w true ≡ fails_next i steps
@@ -73,46 +69,46 @@ module _ (j : JobTree) (w : Walk) (next : Upcoming) (rest : List Item) (is : IsN
       ∙ sym (ap (λ k. take_named j w (named_way w.state.atoms k r cs)) (is_items next w.control rest is))
       ∙ sym (named_step j w w.control r cs plain)
 
-  pub named_takes : {E : Type 0} (result : Result (Option (StepOutcome WalkOf)) E) (r : Rule) (cs : List ℕ) (atoms : List Atom) (choices : List ℕ) (o : Option Way) → is_call w.control ≡ false →
+  pub named_takes : {A E : Type 0} (f : A → Option Leads) (result : Result A E) (r : Rule) (cs : List ℕ) (atoms : List Atom) (choices : List ℕ) (o : Option Way) → is_call w.control ≡ false →
       atoms ≡ w.state.atoms → choices ≡ cs → o ≡ named_way atoms (items_from next rest) r choices →
-      IfOk result (λ t. option_map leads_of t ≡ take_named j w o) → IfOk result (λ t. option_map leads_of t ≡ item_step j w w.control r cs)
-  named_takes (Ok t) r cs atoms choices o plain same e f h = h ∙ names r cs atoms choices o plain same e f
-  named_takes (Err x) r cs atoms choices o plain same e f h = tt
+      IfOk result (λ t. f t ≡ take_named j w o) → IfOk result (λ t. f t ≡ item_step j w w.control r cs)
+  named_takes f (Ok t) r cs atoms choices o plain same e g h = h ∙ names r cs atoms choices o plain same e g
+  named_takes f (Err x) r cs atoms choices o plain same e g h = tt
 
 -- ---- calls
 
 module _ (j : JobTree) (w : Walk) (calls : is_call w.control ≡ true) (r : Rule) (cs : List ℕ) where
-  pub call_takes : {E : Type 0} (result : Result (Option (StepOutcome WalkOf)) E) (choices : List ℕ) → choices ≡ cs → is_call_rule r ≡ true → IfOk result (λ t. option_map leads_of t ≡ whole_call j w choices) →
-      IfOk result (λ t. option_map leads_of t ≡ item_step j w w.control r cs)
-  call_takes (Ok t) choices e f h = h ∙ ap (whole_call j w) e ∙ sym (call_step j w w.control r cs calls ∙ ap (by_rule (whole_call j w cs)) f)
-  call_takes (Err x) choices e f h = tt
+  pub call_takes : {A E : Type 0} (f : A → Option Leads) (result : Result A E) (choices : List ℕ) → choices ≡ cs → is_call_rule r ≡ true → IfOk result (λ t. f t ≡ whole_call j w choices) →
+      IfOk result (λ t. f t ≡ item_step j w w.control r cs)
+  call_takes f (Ok t) choices e g h = h ∙ ap (whole_call j w) e ∙ sym (call_step j w w.control r cs calls ∙ ap (by_rule (whole_call j w cs)) g)
+  call_takes f (Err x) choices e g h = tt
 
   pub other_rule : is_call_rule r ≡ false → None ≡ item_step j w w.control r cs
   other_rule f = sym (call_step j w w.control r cs calls ∙ ap (by_rule (whole_call j w cs)) f)
 
 module _ (j : JobTree) (w : Walk) (next : Upcoming) (rest : List Item) (is : IsNext next w.control rest)
     (steps : List Step) (i : ℕ) (st : Step) (here : slice_get steps i ≡ Some st) (go : ℕ → List Step → Leads → Course)
-    (o : Option (StepOutcome WalkOf)) (taken : option_map leads_of o ≡ item_step j w w.control st.rule st.choices) where
-  step_is : by_step j go i (drop i steps) w ≡ onward (fails_next i (drop i steps)) (by_use go (suc i) (drop (suc i) steps) (length w.state.atoms) (use_rule w.control st.rule)) (option_map leads_of o)
+    {A : Type 0} (to : A → Leads) (o : Option A) (taken : option_map to o ≡ item_step j w w.control st.rule st.choices) where
+  step_is : by_step j go i (drop i steps) w ≡ onward (fails_next i (drop i steps)) (by_use go (suc i) (drop (suc i) steps) (length w.state.atoms) (use_rule w.control st.rule)) (option_map to o)
   step_is =
-      subst (λ z. by_step j go i z w ≡ onward (fails_next i z) (by_use go (suc i) (drop (suc i) steps) (length w.state.atoms) (use_rule w.control st.rule)) (option_map leads_of o))
+      subst (λ z. by_step j go i z w ≡ onward (fails_next i z) (by_use go (suc i) (drop (suc i) steps) (length w.state.atoms) (use_rule w.control st.rule)) (option_map to o))
       (sym (got steps i st here))
       (ap (onward (fails_at i st.rule) (by_use go (suc i) (drop (suc i) steps) (length w.state.atoms) (use_rule w.control st.rule))) (sym taken))
 
   -- the step takes nothing
   pub not_taken : o ≡ None → by_step j go i (drop i steps) w ≡ fails_next i (drop i steps)
-  not_taken n = step_is ∙ ap (λ z. onward (fails_next i (drop i steps)) (by_use go (suc i) (drop (suc i) steps) (length w.state.atoms) (use_rule w.control st.rule)) (option_map leads_of z)) n
+  not_taken n = step_is ∙ ap (λ z. onward (fails_next i (drop i steps)) (by_use go (suc i) (drop (suc i) steps) (length w.state.atoms) (use_rule w.control st.rule)) (option_map to z)) n
 
   -- the step leads there, and the use of a block is looked at
-  pub step_taken : (a : StepOutcome WalkOf) (r : Option Rule) (u : Option ℕ) (m : ℕ) → o ≡ Some a → r ≡ use_rule (items_from next rest) st.rule → m ≡ length w.state.atoms →
-      by_use go (i + 1) (drop (i + 1) steps) m r (leads_of a) ≡ used go steps (i + 1) (leads_of a) u → by_step j go i (drop i steps) w ≡ used go steps (i + 1) (leads_of a) u
+  pub step_taken : (a : A) (r : Option Rule) (u : Option ℕ) (m : ℕ) → o ≡ Some a → r ≡ use_rule (items_from next rest) st.rule → m ≡ length w.state.atoms →
+      by_use go (i + 1) (drop (i + 1) steps) m r (to a) ≡ used go steps (i + 1) (to a) u → by_step j go i (drop i steps) w ≡ used go steps (i + 1) (to a) u
   step_taken a r u m l g k h =
       let n : suc i ≡ i + 1 = omega arith in
       step_is
-      ∙ ap (λ z. onward (fails_next i (drop i steps)) (by_use go (suc i) (drop (suc i) steps) (length w.state.atoms) (use_rule w.control st.rule)) (option_map leads_of z)) l
-      ∙ ap (λ z. by_use go z (drop z steps) (length w.state.atoms) (use_rule w.control st.rule) (leads_of a)) n
-      ∙ ap (λ z. by_use go (i + 1) (drop (i + 1) steps) (length w.state.atoms) z (leads_of a)) (ap (λ k. use_rule k st.rule) (is_items next w.control rest is) ∙ sym g)
-      ∙ ap (λ z. by_use go (i + 1) (drop (i + 1) steps) z r (leads_of a)) (sym k)
+      ∙ ap (λ z. onward (fails_next i (drop i steps)) (by_use go (suc i) (drop (suc i) steps) (length w.state.atoms) (use_rule w.control st.rule)) (option_map to z)) l
+      ∙ ap (λ z. by_use go z (drop z steps) (length w.state.atoms) (use_rule w.control st.rule) (to a)) n
+      ∙ ap (λ z. by_use go (i + 1) (drop (i + 1) steps) (length w.state.atoms) z (to a)) (ap (λ k. use_rule k st.rule) (is_items next w.control rest is) ∙ sym g)
+      ∙ ap (λ z. by_use go (i + 1) (drop (i + 1) steps) z r (to a)) (sym k)
       ∙ h
 
 -- ---- both
@@ -123,18 +119,18 @@ pub by_silence : (j : JobTree) (n i : ℕ) (steps : List Step) (w : Walk) (next 
 by_silence j n i steps w next rest b is e = ap (by_item j (course n j) i steps w) (ap is_silent (is_items next w.control rest is) ∙ e)
 
 module _ (j : JobTree) (i : ℕ) (steps : List Step) (w : Walk) (next : Upcoming) (rest : List Item) (b : Bool) (is : IsNext next w.control rest) (known : b ≡ is_silent (items_from next rest)) where
-  abbrev Turned : Turn → Type 0
-  Turned t = TakesTurn j w i t × ((n : ℕ) → course (suc n) j i (drop i steps) (Next w) ≡ turned n j steps t)
+  abbrev Turned : Walk → Turn → Type 0
+  Turned v t = TakesTurn j w i v t × ((n : ℕ) → course (suc n) j i (drop i steps) (Next w) ≡ turned n j steps v t)
 
-  pub silent_next : {E : Type 0} (r : Result Turn E) → b ≡ true →
-      IfOk r (λ t. TakesTurn j w i t × ((n : ℕ) (ss : List Step) → by_item j (course n j) i (drop i ss) w true ≡ turned n j ss t)) → IfOk r Turned
-  silent_next (Ok t) e h = (h.0, λ n. by_silence j n i (drop i steps) w next rest true is (sym known ∙ e) ∙ h.1 n steps)
-  silent_next (Err x) e h = tt
+  pub silent_next : {E : Type 0} (v : Walk) (r : Result Turn E) → b ≡ true →
+      IfOk r (λ t. TakesTurn j w i v t × ((n : ℕ) (ss : List Step) → by_item j (course n j) i (drop i ss) w true ≡ turned n j ss v t)) → IfOk r (Turned v)
+  silent_next v (Ok t) e h = (h.0, λ n. by_silence j n i (drop i steps) w next rest true is (sym known ∙ e) ∙ h.1 n steps)
+  silent_next v (Err x) e h = tt
 
-  pub step_next : {E : Type 0} (r : Result Turn E) → b ≡ false →
-      IfOk r (λ t. TakesTurn j w i t × ((n : ℕ) → by_step j (course n j) i (drop i steps) w ≡ turned n j steps t)) → IfOk r Turned
-  step_next (Ok t) e h = (h.0, λ n. by_silence j n i (drop i steps) w next rest false is (sym known ∙ e) ∙ h.1 n)
-  step_next (Err x) e h = tt
+  pub step_next : {E : Type 0} (v : Walk) (r : Result Turn E) → b ≡ false →
+      IfOk r (λ t. TakesTurn j w i v t × ((n : ℕ) → by_step j (course n j) i (drop i steps) w ≡ turned n j steps v t)) → IfOk r (Turned v)
+  step_next v (Ok t) e h = (h.0, λ n. by_silence j n i (drop i steps) w next rest false is (sym known ∙ e) ∙ h.1 n)
+  step_next v (Err x) e h = tt
 
 -- ---- the next step
 

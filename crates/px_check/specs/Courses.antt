@@ -7,16 +7,16 @@ use Rattle.px_callgraph.specs.JobTree.{JobTree}
 use Rattle.px_callgraph.specs.Alternatives as W
 use Rattle.px_callgraph.specs.Laws.{IsSorted}
 use Rattle.px_callgraph.specs.Derivations as D
-use Rattle.px_walks.specs.Walks.{leads_of}
+use Rattle.px_check.specs.Leading.{lead_at}
 use Rattle.px_check.specs.declared.turns.Turn.{Turn}
-use Rattle.px_check.specs.declared.turns.Turn.TheVariants.{Goes, Fails}
+use Rattle.px_check.specs.declared.turns.Turn.TheVariants.{Taken, Fails}
 use Rattle.px_check.specs.declared.steps.Course.{Course}
 use Rattle.px_check.specs.declared.steps.Course.TheVariants.{FailsAt, ComesTo}
 
--- the course after an act: it goes on from another step, or a step fails
-abbrev pub turned : ℕ → JobTree → List Step → Turn → D.Course
-turned n j steps (Goes i a) = D.course n j i (drop i steps) (leads_of a)
-turned n j steps (Fails i) = D.fails_next i (drop i steps)
+-- the course after an act that left a walk so: it goes on from another step, or a step fails
+abbrev pub turned : ℕ → JobTree → List Step → W.Walk → Turn → D.Course
+turned n j steps v (Taken i led) = D.course n j i (drop i steps) (lead_at v led)
+turned n j steps v (Fails i) = D.fails_next i (drop i steps)
 
 -- the course after the use of a block: where one was owed and isn't taken, the next step fails
 abbrev pub used : (ℕ → List Step → W.Leads → D.Course) → List Step → ℕ → W.Leads → Option ℕ → D.Course
@@ -29,10 +29,10 @@ IsTurn j w a =
     ((D.is_silent w.control ≡ true) × (D.take_listed j w way.On ≡ Some a))
     ⊎ ((r : Rule) × (choices : List ℕ) × (D.item_step j w w.control r choices ≡ Some a))
 
--- a turn was taken, and at most two steps
-abbrev pub TakesTurn : JobTree → W.Walk → ℕ → Turn → Type 0
-TakesTurn j w i (Goes k a) = (k ≤ i + 2) × IsTurn j w (leads_of a)
-TakesTurn j w i (Fails k) = k ≤ i + 2
+-- a turn was taken that left a walk so, and at most two steps
+abbrev pub TakesTurn : JobTree → W.Walk → ℕ → W.Walk → Turn → Type 0
+TakesTurn j w i v (Taken k led) = (k ≤ i + 2) × IsTurn j w (lead_at v led)
+TakesTurn j w i v (Fails k) = k ≤ i + 2
 
 -- the steps after an `End` are those from the next place on
 abbrev pub course_of : List Step → Course → D.Course

@@ -9,8 +9,9 @@ ghost use Rattle.px_check.specs.Steps.{is_step_that, is_end};
 ghost use Rattle.px_check.specs.Courses.{course_of, place_of, IsSortedCourse};
 
 use crate::turns::{Turn, do_next};
-use px_callgraph::{Job, State, StepOutcome};
+use px_callgraph::{Job, State};
 use px_entry::{Exit, Rule, Step};
+use px_steps::Led;
 use px_terms::{Content, NoMemory};
 use px_walks::start;
 use std::alloc::Global;
@@ -80,21 +81,21 @@ pub(crate) fn follow(alloc: Global, job: &Job, steps: &[Step]) -> Result<Course,
     ensures sorted { IfOk result (λ course. IsSortedCourse course) }
 {
     let mut place = 0;
-    let mut leads = StepOutcome::Next(start(alloc, job)?);
+    let mut walk = start(alloc, job)?;
+    let mut led = Led::Goes;
     loop {
-        match leads {
-            StepOutcome::Next(walk) => match do_next(alloc, job, steps, place, walk)? {
-                Turn::Goes(next, to) => {
+        match led {
+            Led::Goes => match do_next(alloc, job, steps, place, &mut walk)? {
+                Turn::Taken(next, to) => {
                     place = next;
-                    leads = to;
+                    led = to;
                 }
                 Turn::Fails(next) => return Ok(failed(steps, next)),
             },
-            StepOutcome::Ends(state, exit, given) => {
-                return Ok(ended(steps, place, state, exit, given));
+            Led::Ends(exit, given) => {
+                return Ok(ended(steps, place, walk.state, exit, given));
             }
-            StepOutcome::Cut(_, _) => return Ok(failed(steps, place)),
-            StepOutcome::Past(_) => return Ok(failed(steps, place)),
+            Led::Cut(_) => return Ok(failed(steps, place)),
         }
     }
 }

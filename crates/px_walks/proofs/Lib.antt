@@ -2,4 +2,5 @@ pub mod Controls
 pub mod Jumps
 pub mod StartLemmas
 pub mod LedFacts
+pub mod FewLemmas
 pub mod NextLemmas
