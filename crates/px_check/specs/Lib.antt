@@ -1,5 +1,6 @@
 pub mod Steps
 pub mod Leading
+pub mod Follows
 pub mod Courses
 pub mod Values
 pub mod Answers

@@ -19,7 +19,6 @@ use Rattle.px_entry.specs.Sorts.{is_long}
 use Rattle.px_entry.specs.Decided.{assume}
 use Rattle.px_callgraph.specs.declared.states.State.{State}
 use Rattle.px_callgraph.specs.States.{Outcome, goes, ends, on}
-use Rattle.px_callgraph.specs.declared.outcomes.StepOutcome.{StepOutcome}
 use Rattle.px_callgraph.specs.declared.outcomes.StepOutcome.TheVariants.{Next, Ends}
 use Rattle.px_callgraph.specs.Alternatives.{dropped, limited}
 use Rattle.px_steps.specs.Led.{at_state, led_of}

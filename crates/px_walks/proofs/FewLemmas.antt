@@ -17,7 +17,7 @@ use Rattle.px_callgraph.specs.declared.outcomes.StepOutcome.TheVariants.{Next, E
 use Rattle.px_callgraph.specs.JobTree.{JobTree}
 use Rattle.px_callgraph.specs.States.{Outcome, goes, ends, past, drops, Done, on}
 use Rattle.px_callgraph.specs.Renaming.{Substitution, place_through}
-use Rattle.px_callgraph.specs.Calls.{Calling, Stage, choosing, matching, unfit, take_case, finish_call, stand_all}
+use Rattle.px_callgraph.specs.Calls.{Calling, Stage, choosing, matching, unfit, take_case, stand_all}
 use Rattle.px_callgraph.specs.Alternatives.{Walk, Leads, passes, dropped, limited, within_limits, leads, at, going_on, choosing_act, stage_act}
 use Rattle.px_calls.specs.Finishing.{finish_by}
 use Rattle.px_steps.specs.declared.led.Led.{Led}

@@ -4,3 +4,4 @@ pub mod StartLemmas
 pub mod LedFacts
 pub mod FewLemmas
 pub mod NextLemmas
+pub mod ResultLemmas

@@ -1,4 +1,4 @@
-use Rattle.std.proofs.Common.{◌∙◌, None, Some, sym}
+use Rattle.std.proofs.Common.{◌∙◌, None, Some}
 use Rattle.std.proofs.lemmas.Result.{IfOk-weaker}
 use Rattle.px_steps.proofs.DivideLemmas.{divided_led}
 use Rattle.px_steps.proofs.divide_acts.by_other.Goals as goal
