@@ -38,6 +38,11 @@ pub record SignatureTree : Type 0 where
   pub gives : Shape
   pub parameters : List Lexeme
 
+-- nothing at all, as in the name of a type that is no pointer, array or function
+abbrev pub is_nothing : DeclaratorTree → Bool
+is_nothing no_name = true
+is_nothing _ = false
+
 -- a name, in parentheses or not
 abbrev pub bare_name : DeclaratorTree → Option (List ℕ × Site)
 bare_name (a_name word site) = Some (word, site)
