@@ -2,7 +2,7 @@
 use Rattle.std.proofs.Common.{◌≡◌, ℕ, ◌<◌, Bool, true, false, IsTrue, List, [], ◌∷◌, ◌++◌, Option, None, Some, refl, subst, length-append}
 use Rattle.std.proofs.lemmas.Option.{slice_get_within}
 use Rattle.px_syntax.specs.declared.typed_expression.Relation.TheVariants as relation
-use Rattle.px_syntax.specs.TypedTree.{Expression, constant, null, local, negated, arithmetic, truth, cell, allocate, get_char, call, stop, Expressions, no_expressions, an_expression, Arguments, no_arguments, an_argument, passed, erased, Condition, compare, word, pointer, both, either, opposite, Place, local_place, cell_place, Statement, block, declare, assign, update, run_call, free, input, choose, loop, break, continue, return, evaluate, Statements, no_statements, a_statement}
+use Rattle.px_syntax.specs.TypedTree.{Expression, constant, null, local, negated, arithmetic, truth, cell, allocate, get_char, call, stop, Expressions, no_expressions, an_expression, Arguments, no_arguments, an_argument, passed, erased, Condition, compare, word, pointer, both, either, opposite, Place, local_place, cell_place, Statement, block, declare, assign, update, run_call, free, input, choose, loop, break, continue, return, evaluate, access, Statements, no_statements, a_statement}
 use Rattle.px_syntax.specs.ProgramTree.{ProcedureTree}
 use Rattle.px_meaning.specs.Values.{ValueType, Int, Pointer}
 use Rattle.px_meaning.specs.TypedProgram.{TypedProgram}
@@ -96,6 +96,7 @@ module _ (P : TypedProgram) (locals : LocalTypes) (m : ℕ) (below : (i : ℕ) (
     statement_within result inside leaves may continue h = may h
     statement_within result inside leaves may (return e) h = returned result e h
     statement_within result inside leaves may (evaluate e) h = (passed_within (an_expression e no_expressions) h).0
+    statement_within result inside leaves may (access p parts field b site) h = (within (Pointer b) p h.0, passed_within parts h.1)
 
     statements_within : (result : Option ValueType) (inside leaves : Bool) → (IsTrue inside → IsTrue leaves) → (ss : Statements) → AreStatements P locals result inside ss → AreStatementsWithin m leaves ss
     statements_within result inside leaves may no_statements h = tt
@@ -116,6 +117,7 @@ module _ (P : TypedProgram) (locals : LocalTypes) (m : ℕ) (below : (i : ℕ) (
     step_within result inside continue k h = absurd k
     step_within result inside (return e) k h = absurd k
     step_within result inside (evaluate e) k h = (passed_within (an_expression e no_expressions) h).0
+    step_within result inside (access p parts field b site) k h = (within (Pointer b) p h.0, passed_within parts h.1)
 
 -- no procedure breaks or continues outside of loops
 pub body_within : (P : TypedProgram) (p : ProcedureTree) (leaves : Bool) → IsTypedProcedure P p → IsStatementWithin (locals_of p) leaves p.body
