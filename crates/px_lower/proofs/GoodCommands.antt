@@ -20,7 +20,7 @@ use Rattle.px_meaning.specs.Values.{TypeId, ValueType, Int, Pointer}
 use Rattle.px_meaning.specs.CoreTypes.{SlotTypes, IsOperandOf, AreOperandsOf, IsOperationOf, IsTyped, AreTyped}
 use Rattle.px_meaning.specs.TypedProgram.{TypedProgram}
 use Rattle.px_meaning.proofs.TypedSteps.{none_fits, one_fits}
-use Rattle.px_meaning.specs.TreeTypes.{LocalTypes, type_of_cell, AgreesWith, IsOf, AreOf, ArePassed, IsCondition, IsPlaceOf, IsConditionIf, IsDeclared, IsReturned, IsStep, IsStatement, AreStatements}
+use Rattle.px_meaning.specs.TreeTypes.{LocalTypes, type_of_cell, AgreesWith, IsOf, AreOf, ArePassed, IsCondition, IsPlaceOf, IsConditionIf, IsDeclared, IsReturned, IsStep, AreSteps, IsStatement, AreStatements}
 use Rattle.px_meaning.proofs.TypedTrees.{defined_some}
 use Rattle.px_lower.specs.Lowering.{Lowered, and_then, doing, giving, copy, comparison, copied, loaded, reached, lowered_expression, lowered_arguments, lowered_passed, lowered_condition, lowered_declaration, lowered_assignment, lowered_update, lowered_access, lowered_head, lowered_return, lowered_statement, lowered_statements, applied, result_slot}
 use Rattle.px_lower.specs.LoweredProgram.{lowered, lowered_program}
@@ -533,8 +533,7 @@ module _ (P : TypedProgram) (locals : LocalTypes) (result : Option ValueType) (m
 
     -- the step of a loop neither breaks nor continues
     step_good : (given : Kinds → ℕ → Type 0) → Has InStep given → (s : Statement) (n : ℕ) → IsStep P locals s → (inside : Bool) → IsStatement P locals result inside s → Good InStep given n (lowered_statement s n) Any
-    step_good given has (block no_statements) n k inside h = takes_none InStep given Any n [] tt (λ K N g. (none InStep K N, tt))
-    step_good given has (block (a_statement s rest)) n k inside h = absurd k
+    step_good given has (block statements) n k inside h = steps_good given has statements n k inside h
     step_good given has (assign to e) n k inside h = assignment_good InStep given has h.0 to e n h.1 h.2
     step_good given has (update op to e) n k inside h = update_good InStep given has op to e n h.0 h.1
     step_good given has (run_call proc es site) n k inside h =
@@ -554,3 +553,9 @@ module _ (P : TypedProgram) (locals : LocalTypes) (result : Option ValueType) (m
     step_good given has (return e) n k inside h = absurd k
     step_good given has (evaluate e) n k inside h = passed_good InStep given has (an_expression e no_expressions) n h
     step_good given has (access p parts field b site) n k inside h = access_good InStep given has p parts field b site n h.0 h.1 h.2.0 h.2.1
+
+    steps_good : (given : Kinds → ℕ → Type 0) → Has InStep given → (ss : Statements) (n : ℕ) → AreSteps P locals ss → (inside : Bool) → AreStatements P locals result inside ss → Good InStep given n (lowered_statements ss n) Any
+    steps_good given has no_statements n k inside h = takes_none InStep given Any n [] tt (λ K N g. (none InStep K N, tt))
+    steps_good given has (a_statement s rest) n k inside h =
+        let x = lowered_statement s n in
+        then' InStep given Any Any n x _ (step_good given has s n k.0 inside h.0) (λ u. steps_good _ (λ K N g. has K N g.0) rest x.next k.1 inside h.1)

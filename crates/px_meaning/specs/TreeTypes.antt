@@ -100,23 +100,27 @@ module _ (P : TypedProgram) (locals : LocalTypes) where
   IsReturned (Some t) None = ⊥
   IsReturned (Some t) (Some e) = IsOf t e
 
-  -- the step of a loop is nothing, or a statement that only assigns or calls
-  abbrev pub IsStep : Statement → Type 0
-  IsStep (block no_statements) = ⊤
-  IsStep (block (a_statement s rest)) = ⊥
-  IsStep (assign place e) = ⊤
-  IsStep (update op place e) = ⊤
-  IsStep (run_call proc es site) = ⊤
-  IsStep (free e b site) = ⊤
-  IsStep (input site) = ⊤
-  IsStep (declare n e) = ⊥
-  IsStep (choose c first second) = ⊥
-  IsStep (loop site c body step) = ⊥
-  IsStep break = ⊥
-  IsStep continue = ⊥
-  IsStep (return e) = ⊥
-  IsStep (evaluate e) = ⊤
-  IsStep (access e parts field b site) = ⊤
+  abbrev mutual
+    -- the step of a loop only assigns and calls: it declares, chooses, repeats and leaves nothing
+    pub IsStep : Statement → Type 0
+    IsStep (block statements) = AreSteps statements
+    IsStep (assign place e) = ⊤
+    IsStep (update op place e) = ⊤
+    IsStep (run_call proc es site) = ⊤
+    IsStep (free e b site) = ⊤
+    IsStep (input site) = ⊤
+    IsStep (declare n e) = ⊥
+    IsStep (choose c first second) = ⊥
+    IsStep (loop site c body step) = ⊥
+    IsStep break = ⊥
+    IsStep continue = ⊥
+    IsStep (return e) = ⊥
+    IsStep (evaluate e) = ⊤
+    IsStep (access e parts field b site) = ⊤
+
+    pub AreSteps : Statements → Type 0
+    AreSteps no_statements = ⊤
+    AreSteps (a_statement s rest) = IsStep s × AreSteps rest
 
   abbrev mutual
     -- a statement of a procedure with this result, in a loop or not, keeps the rules
