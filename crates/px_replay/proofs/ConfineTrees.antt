@@ -4,7 +4,7 @@ use Rattle.std.proofs.Common.{◌≡◌, ◌⊎◌, ℕ, zero, suc, pos, Bool, t
 use Rattle.px_base.specs.declared.trace.Site.{Site}
 use Rattle.px_base.specs.declared.trace.MarkKind.TheVariants.{Iter, Done}
 use Rattle.px_core.specs.declared.command.Operator.TheVariants.{Neg}
-use Rattle.px_meaning.specs.Values.{BlockType, Value, Word, Null, Unwritten}
+use Rattle.px_meaning.specs.Values.{TypeId, BlockType, Value, Word, Null, Unwritten}
 use Rattle.px_meaning.specs.Heaps.{HeapMap}
 use Rattle.px_meaning.specs.Events.{Event}
 use Rattle.px_meaning.specs.Execution.{Locals, with_local}
