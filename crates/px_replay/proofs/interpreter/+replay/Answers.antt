@@ -746,7 +746,7 @@ pub access-returns-in_err-reach : goal.access-returns-in_err-reach
 access-returns-in_err-reach t c =
     let types = types_in c.args.callees.now in let calls = calls_of c.args.callees.now in let l0 = locals_map c.args.locals.now in let s0 = plain_script c.args.script.now in let p = typed_expression c.args.pointer.now in let ps = expressions_of (map typed_expression c.args.parts.now) in let l = c.args.cell in let s1 = plain_script c.expression.new.script in let s2 = plain_script c.effects.new.script in let s3 = plain_script c.reach.new.script in let d = c.in_err-reach.field-0.0 in ended_surely (λ s r s'. accesses types calls p ps l.block l.site l0 s (ended r l0) s') s0 s3 c.from_residual-in_err-reach.result d (err_from_is_err_and c.from_residual-in_err-reach.result c.from_residual-in_err-reach.ensures.1) (Ok c.in_ok-at.at, s1, c.in_ok-at.ensures, (Ok tt, s2, c.in_ok-effects.ensures, (Err d, s3, c.in_err-reach.ensures, (refl, refl))))
 
-pub access-returns : goal.access-returns-in_ok-reach
+pub access-returns : goal.access-returns
 access-returns t c =
     let s1 = plain_script c.expression.new.script in let s2 = plain_script c.effects.new.script in let s3 = plain_script c.reach.new.script in (Ok c.in_ok-at.at, s1, c.in_ok-at.ensures, (Ok tt, s2, c.in_ok-effects.ensures, (Ok tt, s3, c.in_ok-reach.ensures, (refl, refl))))
 
