@@ -3,6 +3,8 @@ pub mod TableRanges
 pub mod BodyRanges
 pub mod JobRanges
 pub mod Jobs
+pub mod MessageTrees
+pub mod Mentions
 pub mod Messages
 pub mod Readers
 pub mod Sinks
