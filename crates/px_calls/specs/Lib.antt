@@ -1,4 +1,5 @@
 pub mod Calls
+pub mod Progress
 pub mod Required
 pub mod Arguments
 pub mod Meeting

@@ -7,12 +7,14 @@ ghost use Rattle.px_callgraph.specs.JobTree.{job_tree};
 ghost use Rattle.px_callgraph.specs.Calls as spec;
 ghost use Rattle.px_callgraph.specs.Alternatives as paths;
 ghost use Rattle.px_calls.specs.Calls.{calling_of, stage_of, called, or_unknown, IsFewCalled};
+ghost use Rattle.px_calls.specs.Progress.{progress_at};
 
 use crate::arguments::fits_arguments;
 use crate::callees::{drop_cause, entry_in, find_callee};
-use crate::{Call, CallProgress, Calling, Matching, Stage};
+use crate::led::{self, CallLed};
+use crate::{Call, Calling, Matching, Stage};
 use px_base::ProcId;
-use px_callgraph::{Callee, Job, State, StepOutcome, Way};
+use px_callgraph::{Callee, Job, State, Way};
 use px_entry::Entry;
 use px_match::put_from;
 use px_regular::is_regular;
@@ -23,13 +25,13 @@ use std::alloc::Global;
 pub(crate) fn choosing_act<'a>(
     alloc: Global,
     job: &'a Job,
-    state: State,
+    state: &State,
     calling: Calling,
     way: Way,
-) -> Result<StepOutcome<CallProgress<'a>>, NoMemory>
-    requires { length state.atoms < 2 ^ 32 }
-    ensures leads { IfOk result (λ to. (k : List Item) → called k to ≡ paths.choosing_act (job_tree job.now) state (calling_of calling) k way) }
-    ensures few { IfOk result (λ to. IsFewCalled to) }
+) -> Result<CallLed<'a>, NoMemory>
+    requires { length state.now.atoms < 2 ^ 32 }
+    ensures leads { IfOk result (λ led. (k : List Item) → called k (progress_at led state.now) ≡ paths.choosing_act (job_tree job.now) state.now (calling_of calling) k way) }
+    ensures few { IfOk result (λ led. IsFewCalled (progress_at led state.now)) }
 {
     let callee = find_callee(job.callees.as_slice(), calling.proc);
     match way {
@@ -41,8 +43,7 @@ pub(crate) fn choosing_act<'a>(
                 calling.arguments.as_slice(),
                 entry_in(callee, n),
             )?;
-            let call = Some(Call { calling, stage });
-            Ok(StepOutcome::Next(CallProgress { state, call }))
+            Ok(CallLed::Goes(Some(Call { calling, stage })))
         }
         _ => drop_call(alloc, state, calling.proc, callee),
     }
@@ -51,13 +52,13 @@ pub(crate) fn choosing_act<'a>(
 // The path isn't followed, since an entry of the callee isn't known.
 fn drop_call<'a>(
     alloc: Global,
-    state: State,
+    state: &State,
     proc: ProcId,
     callee: Option<&Callee>,
-) -> Result<StepOutcome<CallProgress<'a>>, NoMemory>
-    ensures { IfOk result (λ to. to ≡ paths.dropped state (spec.drop_cause proc (or_unknown (option_copied callee.entry)))) }
+) -> Result<CallLed<'a>, NoMemory>
+    ensures { IfOk result (λ led. progress_at led state.now ≡ paths.dropped state.now (spec.drop_cause proc (or_unknown (option_copied callee.entry)))) }
 {
-    StepOutcome::dropped(alloc, state, drop_cause(proc, callee))
+    led::dropped(alloc, state, drop_cause(proc, callee))
 }
 
 // How far a call is that chooses an entry, if there is one of its number.

@@ -5,20 +5,23 @@ ghost use Rattle.px_callgraph.specs.Calls as spec;
 ghost use Rattle.px_callgraph.specs.Alternatives as paths;
 ghost use Rattle.px_entry.specs.declared.entries.Exit.TheVariants as exits;
 ghost use Rattle.px_calls.specs.Calls.{calling_of, called, IsFewCalled};
+ghost use Rattle.px_calls.specs.Progress.{progress_at};
 ghost use Rattle.px_calls.specs.Finishing.{IsSaid, IsGiven, nothing_given, adding, applied, finish_by};
 
+use crate::Calling;
 use crate::assuming::{Assumed, assume_all, one_more};
 use crate::leaving::{Left, leave_all, with_states};
+use crate::led::{self, CallLed};
 use crate::meeting::Progress;
 use crate::possible::{all_variables, put_all};
-use crate::{CallProgress, Calling};
 use px_base::{Kind, Mark, MarkKind, Site};
-use px_callgraph::{State, StepOutcome};
+use px_callgraph::State;
 use px_entry::{Entry, Exit};
-use px_match::{Growth, NOTHING, content_through, count_new, cut, limit_passed};
+use px_match::{Growth, NOTHING, content_through, count_new, limit_passed};
 use px_terms::{Content, Items, NoMemory, Var, VarInfo};
 use px_ways::{mark, set_slot};
 use std::alloc::Global;
+use std::mem;
 
 /// What an entry says of its caller's state, built beside it.
 #[derive(Drop)]
@@ -40,13 +43,13 @@ pub(crate) struct Given {
 /// All blocks that an entry requires are met, and what it says is done.
 pub(crate) fn finish<'a>(
     alloc: Global,
-    state: State,
+    state: &mut State,
     calling: Calling,
     entry: &Entry,
     progress: Progress,
-) -> Result<StepOutcome<CallProgress<'a>>, NoMemory>
-    ensures leads { IfOk result (λ to. (k : List Item) → called k to ≡ paths.leads state (spec.finish_call (calling_of calling) entry.now progress.substitution.items progress.used.items state) (paths.at k)) }
-    ensures few { IfOk result (λ to. IsFewCalled to) }
+) -> Result<CallLed<'a>, NoMemory>
+    ensures leads { IfOk result (λ led. (k : List Item) → called k (progress_at led state.new) ≡ paths.leads state.old (spec.finish_call (calling_of calling) entry.now progress.substitution.items progress.used.items state.old) (paths.at k)) }
+    ensures few { IfOk result (λ led. IsFewCalled (progress_at led state.new)) }
 {
     let Progress {
         substitution,
@@ -55,7 +58,7 @@ pub(crate) fn finish<'a>(
     } = progress;
     let mut all = substitution;
     put_all(alloc, &mut all, state.vars.len(), entry.vars.as_slice())?;
-    let said = say(alloc, &state, &all, entry)?;
+    let said = say(alloc, state, &all, entry)?;
     match entry.exit {
         Exit::Ok => return_from(alloc, state, calling, &all, &used, entry, said),
         Exit::Error(kind, site) => fail_by(alloc, state, &used, entry, said, kind, site),
@@ -94,30 +97,27 @@ fn say(
 // The caller goes on with what the callee gives.
 fn return_from<'a>(
     alloc: Global,
-    state: State,
+    state: &mut State,
     calling: Calling,
     substitution: &[(Var, Content)],
     used: &[u32],
     entry: &Entry,
     said: Said,
-) -> Result<StepOutcome<CallProgress<'a>>, NoMemory>
-    requires said { IsSaid state substitution.now entry.now said }
-    ensures leads { IfOk result (λ to. (k : List Item) → called k to ≡ paths.leads state (finish_by (calling_of calling) entry.now substitution.now used.now state exits.Ok) (paths.at k)) }
-    ensures few { IfOk result (λ to. IsFewCalled to) }
+) -> Result<CallLed<'a>, NoMemory>
+    requires said { IsSaid state.old substitution.now entry.now said }
+    ensures leads { IfOk result (λ led. (k : List Item) → called k (progress_at led state.new) ≡ paths.leads state.old (finish_by (calling_of calling) entry.now substitution.now used.now state.old exits.Ok) (paths.at k)) }
+    ensures few { IfOk result (λ led. IsFewCalled (progress_at led state.new)) }
 {
     let given = result_given(alloc, substitution, calling.to, &entry.result)?;
     let marks = one_more(entry.trace.len())?;
     let growth = growth_of(entry, &said, marks, given.long);
-    match limit_passed(&state, &growth) {
-        Some(kind) => cut(alloc, state, kind),
+    match limit_passed(state, &growth) {
+        Some(kind) => led::cut(alloc, state, kind),
         None => {
-            let mut after = apply(state, said, used, entry.trace.as_slice())?;
-            mark(&mut after, MarkKind::Leave, calling.site)?;
-            keep_result(&mut after, calling.to, given.content);
-            Ok(StepOutcome::Next(CallProgress {
-                state: after,
-                call: None,
-            }))
+            apply(alloc, state, said, used, entry.trace.as_slice())?;
+            mark(state, MarkKind::Leave, calling.site)?;
+            keep_result(state, calling.to, given.content);
+            Ok(CallLed::Goes(None))
         }
     }
 }
@@ -125,22 +125,22 @@ fn return_from<'a>(
 // The caller ends with the callee's error.
 fn fail_by<'a>(
     alloc: Global,
-    state: State,
+    state: &mut State,
     used: &[u32],
     entry: &Entry,
     said: Said,
     kind: Kind,
     site: Site,
-) -> Result<StepOutcome<CallProgress<'a>>, NoMemory>
-    ensures leads { IfOk result (λ to. (c : spec.Calling) (σ : Substitution) (k : List Item) → IsSaid state σ entry.now said → called k to ≡ paths.leads state (finish_by c entry.now σ used.now state (exits.Error kind site)) (paths.at k)) }
-    ensures few { IfOk result (λ to. IsFewCalled to) }
+) -> Result<CallLed<'a>, NoMemory>
+    ensures leads { IfOk result (λ led. (c : spec.Calling) (σ : Substitution) (k : List Item) → IsSaid state.old σ entry.now said → called k (progress_at led state.new) ≡ paths.leads state.old (finish_by c entry.now σ used.now state.old (exits.Error kind site)) (paths.at k)) }
+    ensures few { IfOk result (λ led. IsFewCalled (progress_at led state.new)) }
 {
     let growth = growth_of(entry, &said, entry.trace.len(), false);
-    match limit_passed(&state, &growth) {
-        Some(passed) => cut(alloc, state, passed),
+    match limit_passed(state, &growth) {
+        Some(passed) => led::cut(alloc, state, passed),
         None => {
-            let after = apply(state, said, used, entry.trace.as_slice())?;
-            Ok(StepOutcome::Ends(after, Exit::Error(kind, site), None))
+            apply(alloc, state, said, used, entry.trace.as_slice())?;
+            Ok(CallLed::Ends(Exit::Error(kind, site), None))
         }
     }
 }
@@ -160,8 +160,14 @@ fn growth_of(entry: &Entry, said: &Said, marks: usize, long: bool) -> Growth
 }
 
 // The state that is left.
-fn apply(mut state: State, said: Said, used: &[u32], trace: &[Mark]) -> Result<State, NoMemory>
-    ensures { IfOk result (λ t. t ≡ applied state said used.now trace.now) }
+fn apply(
+    alloc: Global,
+    state: &mut State,
+    said: Said,
+    used: &[u32],
+    trace: &[Mark],
+) -> Result<(), NoMemory>
+    ensures { OnOk result (state.new ≡ applied state.old said used.now trace.now) }
 {
     let Said {
         vars,
@@ -170,10 +176,10 @@ fn apply(mut state: State, said: Said, used: &[u32], trace: &[Mark]) -> Result<S
     } = said;
     state.vars = vars;
     append(&mut state.pure, assumed.added)?;
-    state.atoms = with_states(state.atoms, used, left.found);
+    let atoms = mem::replace(&mut state.atoms, Items::new(alloc));
+    state.atoms = with_states(atoms, used, left.found);
     append(&mut state.atoms, left.made)?;
-    put_marks(&mut state.trace, trace)?;
-    Ok(state)
+    put_marks(&mut state.trace, trace)
 }
 
 // Items after others.

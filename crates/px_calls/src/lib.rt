@@ -12,12 +12,14 @@ mod entering;
 mod finishing;
 mod keys;
 mod leaving;
+mod led;
 mod meeting;
 mod names;
 mod possible;
 mod required;
 
-pub use acts::call_act;
+pub use acts::{call_act, call_act_in};
 pub use call::{Call, CallProgress, Calling, Matching, Stage, copy_call};
 pub use entering::enter;
+pub use led::CallLed;
 pub use names::{call_ways, is_call_way, stage_way};

@@ -8,13 +8,15 @@ ghost use Rattle.px_callgraph.specs.Calls as spec;
 ghost use Rattle.px_callgraph.specs.Renaming as renaming;
 ghost use Rattle.px_ways.specs.Additions.{with_conjuncts};
 ghost use Rattle.px_calls.specs.Calls.{calling_of, stage_of, IsTaking};
+ghost use Rattle.px_calls.specs.Progress.{progress_at};
 ghost use Rattle.px_calls.specs.Meeting.{met_stage, taken_atom, taken_missing, taken_case, IsStaying};
 
 use crate::assuming::one_more;
-use crate::{Call, CallProgress, Calling, Matching, Stage};
-use px_callgraph::{State, StepOutcome, Way};
+use crate::led::{self, CallLed};
+use crate::{Call, Calling, Matching, Stage};
+use px_callgraph::{State, Way};
 use px_entry::{Atom, AtomState, Entry};
-use px_match::{Growth, NOTHING, cut, limit_passed, place_through, put_cells};
+use px_match::{Growth, NOTHING, limit_passed, place_through, put_cells};
 use px_terms::{BlockType, Conj, Content, NoMemory, Place, Var};
 use px_ways::{add_conjunct, cells_of, count_added, meet_freed, meet_live, place_at, unless_there};
 use std::alloc::Global;
@@ -34,15 +36,15 @@ pub(crate) struct Progress {
 pub(crate) fn meet<'a>(
     alloc: Global,
     types: &[BlockType],
-    state: State,
+    state: &mut State,
     calling: Calling,
     entry: &'a Entry,
     progress: Progress,
     required: &Atom,
     way: Way,
-) -> Result<StepOutcome<CallProgress<'a>>, NoMemory>
-    requires few { length state.atoms < 2 ^ 32 }
-    ensures { IfOk result (λ to. IsTaking state (calling_of calling) (taken_case types.now entry.now progress required.now way (renaming.place_through progress.substitution.items (places.Var required.now.place)) state) to) }
+) -> Result<CallLed<'a>, NoMemory>
+    requires few { length state.old.atoms < 2 ^ 32 }
+    ensures { IfOk result (λ led. IsTaking state.old (calling_of calling) (taken_case types.now entry.now progress required.now way (renaming.place_through progress.substitution.items (places.Var required.now.place)) state.old) (progress_at led state.new)) }
 {
     match place_through(&progress.substitution, Place::Var(required.place)) {
         Some(place) => meet_at(
@@ -56,16 +58,16 @@ pub(crate) fn meet<'a>(
 fn meet_at<'a>(
     alloc: Global,
     types: &[BlockType],
-    state: State,
+    state: &mut State,
     calling: Calling,
     entry: &'a Entry,
     progress: Progress,
     required: &Atom,
     place: Place,
     way: Way,
-) -> Result<StepOutcome<CallProgress<'a>>, NoMemory>
-    requires few { length state.atoms < 2 ^ 32 }
-    ensures { IfOk result (λ to. IsTaking state (calling_of calling) (taken_case types.now entry.now progress required.now way (Some place) state) to) }
+) -> Result<CallLed<'a>, NoMemory>
+    requires few { length state.old.atoms < 2 ^ 32 }
+    ensures { IfOk result (λ led. IsTaking state.old (calling_of calling) (taken_case types.now entry.now progress required.now way (Some place) state.old) (progress_at led state.new)) }
 {
     match way {
         Way::Atom(n) => meet_atom(alloc, state, calling, entry, progress, required, place, n),
@@ -77,22 +79,18 @@ fn meet_at<'a>(
 }
 
 // No way is named so.
-fn stop<'a>(
-    alloc: Global,
-    state: State,
-    calling: Calling,
-) -> Result<StepOutcome<CallProgress<'a>>, NoMemory>
-    requires few { length state.atoms < 2 ^ 32 }
-    ensures { IfOk result (λ to. IsTaking state (calling_of calling) (record { state = state; stage = spec.unfit }) to) }
+fn stop<'a>(alloc: Global, state: &State, calling: Calling) -> Result<CallLed<'a>, NoMemory>
+    requires few { length state.now.atoms < 2 ^ 32 }
+    ensures { IfOk result (λ led. IsTaking state.now (calling_of calling) (record { state = state.now; stage = spec.unfit }) (progress_at led state.now)) }
 {
-    match limit_passed(&state, &NOTHING) {
-        Some(kind) => cut(alloc, state, kind),
+    match limit_passed(state, &NOTHING) {
+        Some(kind) => led::cut(alloc, state, kind),
         None => {
-            let call = Some(Call {
+            let call = Call {
                 calling,
                 stage: Stage::Unfit,
-            });
-            Ok(StepOutcome::Next(CallProgress { state, call }))
+            };
+            Ok(CallLed::Goes(Some(call)))
         }
     }
 }
@@ -100,16 +98,16 @@ fn stop<'a>(
 // The block is that of the caller's atom with a number.
 fn meet_atom<'a>(
     alloc: Global,
-    state: State,
+    state: &mut State,
     calling: Calling,
     entry: &'a Entry,
     progress: Progress,
     required: &Atom,
     place: Place,
     n: u32,
-) -> Result<StepOutcome<CallProgress<'a>>, NoMemory>
-    requires few { length state.atoms < 2 ^ 32 }
-    ensures { IfOk result (λ to. IsTaking state (calling_of calling) (taken_atom entry.now progress required.now n place (slice_get state.atoms n) state) to) }
+) -> Result<CallLed<'a>, NoMemory>
+    requires few { length state.old.atoms < 2 ^ 32 }
+    ensures { IfOk result (λ led. IsTaking state.old (calling_of calling) (taken_atom entry.now progress required.now n place (slice_get state.old.atoms n) state.old) (progress_at led state.new)) }
 {
     match place_at(state.atoms.as_slice(), n) {
         Some(x) => meet_place(
@@ -122,7 +120,7 @@ fn meet_atom<'a>(
 // The same where the atom's place is this one.
 fn meet_place<'a>(
     alloc: Global,
-    state: State,
+    state: &mut State,
     calling: Calling,
     entry: &'a Entry,
     progress: Progress,
@@ -130,34 +128,34 @@ fn meet_place<'a>(
     place: Place,
     n: u32,
     x: Var,
-) -> Result<StepOutcome<CallProgress<'a>>, NoMemory>
-    requires few { length state.atoms < 2 ^ 32 }
-    ensures { IfOk result (λ to. (b : AtomOf) → slice_get state.atoms n ≡ Some b → b.place ≡ x → IsTaking state (calling_of calling) (taken_atom entry.now progress required.now n place (Some b) state) to) }
+) -> Result<CallLed<'a>, NoMemory>
+    requires few { length state.old.atoms < 2 ^ 32 }
+    ensures { IfOk result (λ led. (b : AtomOf) → slice_get state.old.atoms n ≡ Some b → b.place ≡ x → IsTaking state.old (calling_of calling) (taken_atom entry.now progress required.now n place (Some b) state.old) (progress_at led state.new)) }
 {
-    let added = unless_there(&state, Conj::SamePlace(place, Place::Var(x)));
+    let added = unless_there(state, Conj::SamePlace(place, Place::Var(x)));
     let growth = Growth {
         conjuncts: count_added(&added),
         ..NOTHING
     };
-    match limit_passed(&state, &growth) {
-        Some(kind) => cut(alloc, state, kind),
+    match limit_passed(state, &growth) {
+        Some(kind) => led::cut(alloc, state, kind),
         None => join(state, calling, entry, progress, required, n, added),
     }
 }
 
 // The same where no limit is passed.
 fn join<'a>(
-    mut state: State,
+    state: &mut State,
     calling: Calling,
     entry: &'a Entry,
     progress: Progress,
     required: &Atom,
     n: u32,
     added: Option<Conj>,
-) -> Result<StepOutcome<CallProgress<'a>>, NoMemory>
-    ensures { IfOk result (λ to. (b : AtomOf) → slice_get state.atoms n ≡ Some b → IsStaying (with_conjuncts (option_to_list added) state) (calling_of calling) (met_stage entry.now progress required.now b n) to) }
+) -> Result<CallLed<'a>, NoMemory>
+    ensures { IfOk result (λ led. (b : AtomOf) → slice_get state.old.atoms n ≡ Some b → IsStaying (with_conjuncts (option_to_list added) state.old) (calling_of calling) (met_stage entry.now progress required.now b n) (progress_at led state.new)) }
 {
-    add_conjunct(&mut state, added)?;
+    add_conjunct(state, added)?;
     stay(state, calling, entry, progress, required, n)
 }
 
@@ -165,15 +163,15 @@ fn join<'a>(
 fn meet_missing<'a>(
     alloc: Global,
     types: &[BlockType],
-    state: State,
+    state: &mut State,
     calling: Calling,
     entry: &'a Entry,
     progress: Progress,
     required: &Atom,
     place: Place,
-) -> Result<StepOutcome<CallProgress<'a>>, NoMemory>
-    requires few { length state.atoms < 2 ^ 32 }
-    ensures { IfOk result (λ to. IsTaking state (calling_of calling) (taken_missing types.now entry.now progress required.now place state) to) }
+) -> Result<CallLed<'a>, NoMemory>
+    requires few { length state.old.atoms < 2 ^ 32 }
+    ensures { IfOk result (λ led. IsTaking state.old (calling_of calling) (taken_missing types.now entry.now progress required.now place state.old) (progress_at led state.new)) }
 {
     match place {
         Place::Null => stop(alloc, state, calling),
@@ -189,15 +187,15 @@ fn meet_missing<'a>(
 fn meet_live_at<'a>(
     alloc: Global,
     types: &[BlockType],
-    mut state: State,
+    state: &mut State,
     calling: Calling,
     entry: &'a Entry,
     progress: Progress,
     required: &Atom,
     x: Var,
-) -> Result<StepOutcome<CallProgress<'a>>, NoMemory>
-    requires few { length state.atoms < 2 ^ 32 }
-    ensures { IfOk result (λ to. cases_spec.is_freed required.now.state ≡ false → IsTaking state (calling_of calling) (taken_missing types.now entry.now progress required.now (places.Var x) state) to) }
+) -> Result<CallLed<'a>, NoMemory>
+    requires few { length state.old.atoms < 2 ^ 32 }
+    ensures { IfOk result (λ led. cases_spec.is_freed required.now.state ≡ false → IsTaking state.old (calling_of calling) (taken_missing types.now entry.now progress required.now (places.Var x) state.old) (progress_at led state.new)) }
 {
     let cells = cells_of(types, required.block);
     let growth = Growth {
@@ -205,11 +203,11 @@ fn meet_live_at<'a>(
         variables: cells.len(),
         ..NOTHING
     };
-    match limit_passed(&state, &growth) {
-        Some(kind) => cut(alloc, state, kind),
+    match limit_passed(state, &growth) {
+        Some(kind) => led::cut(alloc, state, kind),
         None => {
             let n = state.atoms.len() as u32;
-            meet_live(alloc, cells, &mut state, required.block, x)?;
+            meet_live(alloc, cells, state, required.block, x)?;
             stay(state, calling, entry, progress, required, n)
         }
     }
@@ -217,25 +215,25 @@ fn meet_live_at<'a>(
 
 fn meet_freed_at<'a>(
     alloc: Global,
-    mut state: State,
+    state: &mut State,
     calling: Calling,
     entry: &'a Entry,
     progress: Progress,
     required: &Atom,
     x: Var,
-) -> Result<StepOutcome<CallProgress<'a>>, NoMemory>
-    requires few { length state.atoms < 2 ^ 32 }
-    ensures { IfOk result (λ to. cases_spec.is_freed required.now.state ≡ true → (types : List BlockOf) → IsTaking state (calling_of calling) (taken_missing types entry.now progress required.now (places.Var x) state) to) }
+) -> Result<CallLed<'a>, NoMemory>
+    requires few { length state.old.atoms < 2 ^ 32 }
+    ensures { IfOk result (λ led. cases_spec.is_freed required.now.state ≡ true → (types : List BlockOf) → IsTaking state.old (calling_of calling) (taken_missing types entry.now progress required.now (places.Var x) state.old) (progress_at led state.new)) }
 {
     let growth = Growth {
         atoms: 1,
         ..NOTHING
     };
-    match limit_passed(&state, &growth) {
-        Some(kind) => cut(alloc, state, kind),
+    match limit_passed(state, &growth) {
+        Some(kind) => led::cut(alloc, state, kind),
         None => {
             let n = state.atoms.len() as u32;
-            meet_freed(&mut state, required.block, x)?;
+            meet_freed(state, required.block, x)?;
             stay(state, calling, entry, progress, required, n)
         }
     }
@@ -243,18 +241,17 @@ fn meet_freed_at<'a>(
 
 // The block is that of the atom with a number, and the call goes on.
 fn stay<'a>(
-    state: State,
+    state: &State,
     calling: Calling,
     entry: &'a Entry,
     progress: Progress,
     required: &Atom,
     n: u32,
-) -> Result<StepOutcome<CallProgress<'a>>, NoMemory>
-    ensures { IfOk result (λ to. (b : AtomOf) → slice_get state.atoms n ≡ Some b → IsStaying state (calling_of calling) (met_stage entry.now progress required.now b n) to) }
+) -> Result<CallLed<'a>, NoMemory>
+    ensures { IfOk result (λ led. (b : AtomOf) → slice_get state.now.atoms n ≡ Some b → IsStaying state.now (calling_of calling) (met_stage entry.now progress required.now b n) (progress_at led state.now)) }
 {
     let stage = stage_at(state.atoms.as_slice(), entry, progress, required, n)?;
-    let call = Some(Call { calling, stage });
-    Ok(StepOutcome::Next(CallProgress { state, call }))
+    Ok(CallLed::Goes(Some(Call { calling, stage })))
 }
 
 fn stage_at<'a>(

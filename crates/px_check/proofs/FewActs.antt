@@ -17,12 +17,9 @@ use Rattle.px_callgraph.specs.ActsLeft.{acts_left, control_acts, FallsBelow}
 use Rattle.px_callgraph.specs.Derivations.{take_listed}
 use Rattle.px_callgraph.proofs.GrowLemmas.{Grows, extends_length, case_grows, call_grows}
 use Rattle.px_callgraph.proofs.FallLemmas.{acts_lessen}
+use Rattle.px_check.specs.Follows.{alone, turns_left_of}
 use Rattle.px_check.proofs.TakeLemmas.{taken}
 use Rattle.px_check.proofs.FreeLemmas.{each_end}
-
--- the same job without what it knows of callees
-abbrev pub alone : JobTree → JobTree
-alone j = record j { callees = [] }
 
 done_alone : (j : JobTree) (c : CommandTree) (w : Way) (s : State) → command_done (alone j) c w s ≡ command_done j c w s
 done_alone j (assign to op a b) w s = refl
@@ -55,13 +52,6 @@ item_alone j s (AfterStep l ∷ k) w = refl
 act_alone : (j : JobTree) (s : State) (k : List Item) (w : Way) → act (alone j) (at k s) w ≡ act j (at k s) w
 unfolding act
 act_alone j s k w = item_alone j s k w
-
--- how many turns a path may still have; whether a call is going on is no matter
-abbrev pub turns_left_of : JobTree → Leads → ℕ
-turns_left_of j (Next w) = suc (acts_left (alone j) (at w.control w.state))
-turns_left_of j (Ends s exit result) = 0
-turns_left_of j (Cut s gap) = 0
-turns_left_of j (Past s) = 0
 
 without_call : (j : JobTree) (w : Walk) → acts_left (alone j) (at w.control w.state) ≤ acts_left (alone j) w
 unfolding acts_left

@@ -28,15 +28,10 @@ use Rattle.px_callgraph.specs.declared.outcomes.StepOutcome.TheVariants.{Next, E
 use Rattle.px_callgraph.specs.Alternatives.{Walk, Leads, dropped, limited, passes, within_limits, leads, at, items_after, after_command, item_act, going_on, stage_ways, stage_act, ways, act}
 use Rattle.px_callgraph.specs.Derivations.{same_way, still_there, take_listed, stage_way}
 use Rattle.px_check.specs.Steps.{is_call}
+use Rattle.px_check.specs.Follows.{IsFree}
 use Rattle.px_check.proofs.TakeLemmas.{taken}
 
--- no call is going on, or one is, where the path goes on
-abbrev pub IsFree : Leads → Type 0
-IsFree (Next w) = w.call ≡ None
-IsFree (Ends s exit result) = ⊤
-IsFree (Cut s gap) = ⊤
-IsFree (Past s) = ⊤
-
+-- a call is going on, where the path goes on
 abbrev pub IsCalling : Leads → Type 0
 IsCalling (Next w) = (c : Calling × Stage) × (w.call ≡ Some c)
 IsCalling (Ends s exit result) = ⊤

@@ -1,6 +1,7 @@
 -- What each turn keeps: the place where it leads is reached, no call is going on there, and fewer turns are left.
 use Rattle.std.proofs.Common.{◌≡◌, inl, inr, ℕ, ◌≤◌, List, [], ◌∷◌, true, false, Option, Some, None, refl, ap, subst, arith}
 use Rattle.px_core.specs.Control.{Item}
+use Rattle.px_entry.specs.declared.derivations.Step.{Step}
 use Rattle.px_callgraph.specs.declared.states.State.{State}
 use Rattle.px_callgraph.specs.declared.states.Way.{Way}
 use Rattle.px_callgraph.specs.declared.states.Way.TheVariants as way
@@ -12,11 +13,12 @@ use Rattle.px_callgraph.specs.ActsLeft.{acts_left}
 use Rattle.px_callgraph.specs.Laws.{IsReached}
 use Rattle.px_callgraph.specs.Derivations.{take_listed, take_way, choice_way, then_take, take_choices}
 use Rattle.px_check.specs.Steps.{is_call}
+use Rattle.px_check.specs.Follows.{IsSound, IsFree, alone, turns_left_of}
 use Rattle.px_check.specs.Courses.{IsTurn}
-use Rattle.px_check.proofs.TakeLemmas.{IsSound, taken_sound, choices_sound}
+use Rattle.px_check.proofs.TakeLemmas.{taken_sound, choices_sound}
 use Rattle.px_check.proofs.StepLemmas.{whole_call, IsTaken, turn_taken}
-use Rattle.px_check.proofs.FreeLemmas.{IsFree, IsCalling, way_frees, call_enters, is_going, choice_calls, on_frees}
-use Rattle.px_check.proofs.FewActs.{alone, turns_left_of, taken_falls, call_keeps}
+use Rattle.px_check.proofs.FreeLemmas.{IsCalling, way_frees, call_enters, is_going, choice_calls, on_frees}
+use Rattle.px_check.proofs.FewActs.{taken_falls, call_keeps}
 
 -- ---- a call that was entered
 
@@ -94,7 +96,7 @@ module _ (j : JobTree) (s : State) (k : List Item) (a : Leads) (r : IsReached j 
 pub is_at : (w : Walk) → w.call ≡ None → w ≡ at w.control w.state
 is_at w e = ap (λ (o : Option (Calling × Stage)). record { state = w.state; call = o; control = w.control }) e
 
-pub turn_kept : (j : JobTree) (w : Walk) (a : Leads) → w.call ≡ None → IsReached j w → IsTurn j w a → IsKept j w.state w.control a
-turn_kept j w a e r t =
+pub turn_kept : (j : JobTree) (w : Walk) (taken : List Step) (a : Leads) → w.call ≡ None → IsReached j w → IsTurn j w taken a → IsKept j w.state w.control a
+turn_kept j w taken a e r t =
     let i = is_at w e in
-    taken_kept j w.state w.control a (subst (IsReached j) i r) (subst (λ v. IsTaken j v a) i (turn_taken j w a t))
+    taken_kept j w.state w.control a (subst (IsReached j) i r) (subst (λ v. IsTaken j v a) i (turn_taken j w a taken t))

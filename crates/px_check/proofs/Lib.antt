@@ -9,3 +9,5 @@ pub mod TurnLemmas
 pub mod ValueLemmas
 pub mod FollowLemmas
 pub mod EndLemmas
+pub mod ForkLemmas
+pub mod EachLemmas

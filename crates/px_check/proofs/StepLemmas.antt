@@ -4,6 +4,7 @@ use Rattle.px_core.specs.CommandTree.{assign, unset, read, test, choose, loop, l
 use Rattle.px_core.specs.Control.{Item, Act, AfterHead, AfterBody, AfterStep}
 use Rattle.px_entry.specs.declared.derivations.Rule.{Rule}
 use Rattle.px_entry.specs.declared.derivations.Rule.TheVariants as rule
+use Rattle.px_entry.specs.declared.derivations.Step.{Step}
 use Rattle.px_callgraph.specs.declared.states.Way.{Way}
 use Rattle.px_callgraph.specs.declared.states.Way.TheVariants as way
 use Rattle.px_callgraph.specs.JobTree.{JobTree}
@@ -86,6 +87,6 @@ module _ (j : JobTree) (w : Walk) (a : Leads) where
       by true c = absurd (silent_no_call w.control c s)
       by false c = inl (c, (way.On, e))
 
-  pub turn_taken : IsTurn j w a → IsTaken j w a
-  turn_taken (inl t) = of_silent t.0 t.1
-  turn_taken (inr t) = of_step t.0 t.1 t.2
+  pub turn_taken : (taken : List Step) → IsTurn j w taken a → IsTaken j w a
+  turn_taken [] t = of_silent t.0 t.1
+  turn_taken (st ∷ used) t = of_step st.rule st.choices t.1

@@ -1,6 +1,6 @@
 -- What it means that a listed way was taken, or the ways of a step.
 use Rattle.std.proofs.Common.{◌≡◌, ℕ, List, [], ◌∷◌, Bool, true, false, Option, Some, None, refl, ap, subst}
-use Rattle.std.specs.Prelude.{⊤, Contains}
+use Rattle.std.specs.Prelude.{Contains}
 use Rattle.std.specs.List.{list_any}
 use Rattle.std.proofs.lemmas.Bool.{eqb-true}
 use Rattle.std.proofs.lemmas.List.Elements.{All-contains}
@@ -10,16 +10,10 @@ use Rattle.px_callgraph.specs.declared.states.Way.TheVariants as way
 use Rattle.px_callgraph.specs.JobTree.{JobTree}
 use Rattle.px_callgraph.specs.declared.outcomes.StepOutcome.TheVariants.{Next, Ends, Cut, Past}
 use Rattle.px_callgraph.specs.Alternatives.{Walk, Leads, ways, act}
-use Rattle.px_callgraph.specs.Laws.{IsSorted, IsKept, KeepsState, IsReached, by_way}
+use Rattle.px_callgraph.specs.Laws.{IsKept, KeepsState, IsReached, by_way}
 use Rattle.px_callgraph.specs.Derivations.{same_way, still_there, take_listed, take_way, choice_way, then_take, take_choices}
+use Rattle.px_check.specs.Follows.{IsSound}
 use Rattle.px_callgraph.proofs.ReachedLemmas.{reached_keep}
-
--- a place of a path that listed ways lead to, or its end
-abbrev pub IsSound : JobTree → Leads → Type 0
-IsSound j (Next w) = IsReached j w
-IsSound j (Ends s exit result) = IsSorted s
-IsSound j (Cut s gap) = ⊤
-IsSound j (Past s) = ⊤
 
 pub same_sound : (v w : Way) → same_way v w ≡ true → v ≡ w
 same_sound way.On way.On e = refl

@@ -22,9 +22,11 @@ use Rattle.px_walks.specs.Nexts.{items_from, IsNext}
 use Rattle.px_walks.specs.Walks.{leads_of}
 use Rattle.px_callgraph.specs.declared.outcomes.StepOutcome.{StepOutcome}
 use Rattle.px_walks.specs.declared.walk.Walk.{Walk as WalkOf}
+use Rattle.px_match.proofs.PathLimitLemmas as limits
 use Rattle.px_check.specs.Steps.{is_call, named_way, take_named, is_call_rule, is_step_that, is_end}
 use Rattle.px_check.specs.declared.turns.Turn.{Turn}
-use Rattle.px_check.specs.Courses.{turned, used, TakesTurn}
+use Rattle.px_check.specs.declared.turns.Turn.TheVariants.{Goes, Fails}
+use Rattle.px_check.specs.Courses.{IsUse, IsBehindUse, TakesTurn}
 use Rattle.px_walks.proofs.NextLemmas.{is_items}
 use Rattle.px_check.proofs.StepLemmas.{named_step, whole_call, by_rule, call_step}
 
@@ -43,25 +45,36 @@ gone (y ∷ ys) (suc i) e = gone ys i e
 
 -- ---- what takes no step
 
-pub silent_goes : (j : JobTree) (n i : ℕ) (steps : List Step) (w : Walk) (a : StepOutcome WalkOf) → Some (leads_of a) ≡ take_listed j w way.On →
-    by_item j (course n j) i steps w true ≡ course n j i steps (leads_of a)
-silent_goes j n i steps w a e = ap (onward (fails_next i steps) (course n j i steps)) (sym e)
+module _ (j : JobTree) (i : ℕ) (steps : List Step) (w : Walk) (silent : is_silent w.control ≡ true) where
+  pub silent_goes : (a : StepOutcome WalkOf) → Some (leads_of a) ≡ take_listed j w way.On → TakesTurn j steps w i (Goes i a)
+  silent_goes a e = ([], (refl, limits.none i), (silent, sym e))
 
-pub silent_fails : (j : JobTree) (n i : ℕ) (steps : List Step) (w : Walk) → None ≡ take_listed j w way.On → by_item j (course n j) i steps w true ≡ fails_next i steps
-silent_fails j n i steps w e = ap (onward (fails_next i steps) (course n j i steps)) (sym e)
+  pub silent_fails : None ≡ take_listed j w way.On → TakesTurn j steps w i (Fails i)
+  silent_fails e = (
+    omega arith,
+    λ n. ap (by_item j (course n j) i (drop i steps) w) silent ∙ ap (onward (fails_next i (drop i steps)) (course n j i (drop i steps))) (sym e),
+  )
+
+pub for_steps : {E : Type 0} (j : JobTree) (steps : List Step) (w : Walk) (i : ℕ) (r : Result Turn E) → IfOk r (λ t. (ss : List Step) → TakesTurn j ss w i t) → IfOk r (TakesTurn j steps w i)
+for_steps j steps w i (Ok t) h = h steps
+for_steps j steps w i (Err x) h = tt
 
 -- ---- what takes a step
 
-pub no_step : (j : JobTree) (go : ℕ → List Step → Leads → Course) (i : ℕ) (steps : List Step) (w : Walk) → slice_get steps i ≡ None → by_step j go i (drop i steps) w ≡ fails_next i (drop i steps)
-no_step j go i steps w e = subst (λ z. by_step j go i z w ≡ fails_next i z) (sym (gone steps i e)) refl
+pub no_step : (j : JobTree) (i : ℕ) (steps : List Step) (w : Walk) → is_silent w.control ≡ false → slice_get steps i ≡ None → TakesTurn j steps w i (Fails i)
+no_step j i steps w own e = (
+  omega arith,
+  λ n. ap (by_item j (course n j) i (drop i steps) w) own ∙ subst (λ z. by_step j (course n j) i z w ≡ fails_next i z) (sym (gone steps i e)) refl,
+)
 
 module _ (j : JobTree) (w : Walk) (next : Upcoming) (rest : List Item) (is : IsNext next w.control rest) where
   -- by what comes next it is told whether that is a call
   pub next_call : (b : Bool) → b ≡ is_call (items_from next rest) → is_call w.control ≡ b
   next_call b e = ap is_call (is_items next w.control rest is) ∙ sym e
 
-  pub next_silent : (b : Bool) → b ≡ is_silent (items_from next rest) → b ≡ true → is_silent w.control ≡ true
-  next_silent b e f = ap is_silent (is_items next w.control rest is) ∙ sym e ∙ f
+  -- and whether it takes a step
+  pub next_silent : (b s : Bool) → b ≡ is_silent (items_from next rest) → b ≡ s → is_silent w.control ≡ s
+  next_silent b s e f = ap is_silent (is_items next w.control rest is) ∙ sym e ∙ f
 
   -- what a step names, where that is no call
   names : (r : Rule) (cs : List ℕ) (atoms : List Atom) (choices : List ℕ) (o : Option Way) → is_call w.control ≡ false → atoms ≡ w.state.atoms → choices ≡ cs →
@@ -90,51 +103,56 @@ module _ (j : JobTree) (w : Walk) (calls : is_call w.control ≡ true) (r : Rule
   pub other_rule : is_call_rule r ≡ false → None ≡ item_step j w w.control r cs
   other_rule f = sym (call_step j w w.control r cs calls ∙ ap (by_rule (whole_call j w cs)) f)
 
-module _ (j : JobTree) (w : Walk) (next : Upcoming) (rest : List Item) (is : IsNext next w.control rest)
-    (steps : List Step) (i : ℕ) (st : Step) (here : slice_get steps i ≡ Some st) (go : ℕ → List Step → Leads → Course)
+module _ (j : JobTree) (w : Walk) (next : Upcoming) (rest : List Item) (is : IsNext next w.control rest) (own : is_silent w.control ≡ false)
+    (steps : List Step) (i : ℕ) (st : Step) (here : slice_get steps i ≡ Some st)
     (o : Option (StepOutcome WalkOf)) (taken : option_map leads_of o ≡ item_step j w w.control st.rule st.choices) where
-  step_is : by_step j go i (drop i steps) w ≡ onward (fails_next i (drop i steps)) (by_use go (suc i) (drop (suc i) steps) (length w.state.atoms) (use_rule w.control st.rule)) (option_map leads_of o)
-  step_is =
-      subst (λ z. by_step j go i z w ≡ onward (fails_next i z) (by_use go (suc i) (drop (suc i) steps) (length w.state.atoms) (use_rule w.control st.rule)) (option_map leads_of o))
+  -- the use of a block, behind this step
+  abbrev use_at : (n k : ℕ) → Leads → Course
+  use_at n k = by_use (course n j) k (drop k steps) (length w.state.atoms) (use_rule w.control st.rule)
+
+  step_is : (n : ℕ) → course (suc n) j i (drop i steps) (Next w) ≡ onward (fails_next i (drop i steps)) (use_at n (suc i)) (option_map leads_of o)
+  step_is n =
+      ap (by_item j (course n j) i (drop i steps) w) own
+      ∙ subst (λ z. by_step j (course n j) i z w ≡ onward (fails_next i z) (use_at n (suc i)) (option_map leads_of o))
       (sym (got steps i st here))
-      (ap (onward (fails_at i st.rule) (by_use go (suc i) (drop (suc i) steps) (length w.state.atoms) (use_rule w.control st.rule))) (sym taken))
+      (ap (onward (fails_at i st.rule) (use_at n (suc i))) (sym taken))
 
   -- the step takes nothing
-  pub not_taken : o ≡ None → by_step j go i (drop i steps) w ≡ fails_next i (drop i steps)
-  not_taken n = step_is ∙ ap (λ z. onward (fails_next i (drop i steps)) (by_use go (suc i) (drop (suc i) steps) (length w.state.atoms) (use_rule w.control st.rule)) (option_map leads_of z)) n
+  pub not_taken : o ≡ None → TakesTurn j steps w i (Fails i)
+  not_taken e = (omega arith, λ n. step_is n ∙ ap (λ z. onward (fails_next i (drop i steps)) (use_at n (suc i)) (option_map leads_of z)) e)
 
   -- the step leads there, and the use of a block is looked at
-  pub step_taken : (a : StepOutcome WalkOf) (r : Option Rule) (u : Option ℕ) (m : ℕ) → o ≡ Some a → r ≡ use_rule (items_from next rest) st.rule → m ≡ length w.state.atoms →
-      by_use go (i + 1) (drop (i + 1) steps) m r (leads_of a) ≡ used go steps (i + 1) (leads_of a) u → by_step j go i (drop i steps) w ≡ used go steps (i + 1) (leads_of a) u
-  step_taken a r u m l g k h =
-      let n : suc i ≡ i + 1 = omega arith in
-      step_is
-      ∙ ap (λ z. onward (fails_next i (drop i steps)) (by_use go (suc i) (drop (suc i) steps) (length w.state.atoms) (use_rule w.control st.rule)) (option_map leads_of z)) l
-      ∙ ap (λ z. by_use go z (drop z steps) (length w.state.atoms) (use_rule w.control st.rule) (leads_of a)) n
-      ∙ ap (λ z. by_use go (i + 1) (drop (i + 1) steps) (length w.state.atoms) z (leads_of a)) (ap (λ k. use_rule k st.rule) (is_items next w.control rest is) ∙ sym g)
-      ∙ ap (λ z. by_use go (i + 1) (drop (i + 1) steps) z r (leads_of a)) (sym k)
-      ∙ h
+  module _ (a : StepOutcome WalkOf) (r : Option Rule) (m : ℕ) (leads : o ≡ Some a) (owed : r ≡ use_rule (items_from next rest) st.rule) (count : m ≡ length w.state.atoms) where
+    owed_is : r ≡ use_rule w.control st.rule
+    owed_is = owed ∙ sym (ap (λ k. use_rule k st.rule) (is_items next w.control rest is))
 
--- ---- both
+    pub not_used : IsBehindUse steps (i + 1) m r None → TakesTurn j steps w i (Fails (i + 1))
+    not_used h = (
+      omega arith,
+      λ n.
+          let z : suc i ≡ i + 1 = omega arith in
+          step_is n
+          ∙ ap (λ z. onward (fails_next i (drop i steps)) (use_at n (suc i)) (option_map leads_of z)) leads
+          ∙ ap (λ k. use_at n k (leads_of a)) z
+          ∙ ap (λ q. by_use (course n j) (i + 1) (drop (i + 1) steps) (length w.state.atoms) q (leads_of a)) (sym owed_is)
+          ∙ ap (λ q. by_use (course n j) (i + 1) (drop (i + 1) steps) q r (leads_of a)) (sym count)
+          ∙ h (course n j) (leads_of a),
+    )
 
--- whether the next item takes no step
-pub by_silence : (j : JobTree) (n i : ℕ) (steps : List Step) (w : Walk) (next : Upcoming) (rest : List Item) (b : Bool) → IsNext next w.control rest → is_silent (items_from next rest) ≡ b →
-    course (suc n) j i steps (Next w) ≡ by_item j (course n j) i steps w b
-by_silence j n i steps w next rest b is e = ap (by_item j (course n j) i steps w) (ap is_silent (is_items next w.control rest is) ∙ e)
-
-module _ (j : JobTree) (i : ℕ) (steps : List Step) (w : Walk) (next : Upcoming) (rest : List Item) (b : Bool) (is : IsNext next w.control rest) (known : b ≡ is_silent (items_from next rest)) where
-  abbrev Turned : Turn → Type 0
-  Turned t = TakesTurn j w i t × ((n : ℕ) → course (suc n) j i (drop i steps) (Next w) ≡ turned n j steps t)
-
-  pub silent_next : {E : Type 0} (r : Result Turn E) → b ≡ true →
-      IfOk r (λ t. TakesTurn j w i t × ((n : ℕ) (ss : List Step) → by_item j (course n j) i (drop i ss) w true ≡ turned n j ss t)) → IfOk r Turned
-  silent_next (Ok t) e h = (h.0, λ n. by_silence j n i (drop i steps) w next rest true is (sym known ∙ e) ∙ h.1 n steps)
-  silent_next (Err x) e h = tt
-
-  pub step_next : {E : Type 0} (r : Result Turn E) → b ≡ false →
-      IfOk r (λ t. TakesTurn j w i t × ((n : ℕ) → by_step j (course n j) i (drop i steps) w ≡ turned n j steps t)) → IfOk r Turned
-  step_next (Ok t) e h = (h.0, λ n. by_silence j n i (drop i steps) w next rest false is (sym known ∙ e) ∙ h.1 n)
-  step_next (Err x) e h = tt
+    pub step_goes : (k : ℕ) → IsBehindUse steps (i + 1) m r (Some k) → TakesTurn j steps w i (Goes k a)
+    step_goes k (used, (e, f), u) =
+        let g : k ≡ i + suc (length used) = omega (arith, f) in (
+          st ∷ used,
+          (got steps i st here ∙ ap (λ n. st ∷ drop n steps) (suc_is i) ∙ ap (λ zs. st ∷ zs) e, g),
+          (
+            own,
+            sym taken ∙ ap (option_map leads_of) leads,
+            subst (λ q. IsUse q (use_rule w.control st.rule) used) count (subst (λ q. IsUse m q used) owed_is u),
+          ),
+        )
+      where
+        suc_is : (n : ℕ) → suc n ≡ n + 1
+        suc_is n = omega arith
 
 -- ---- the next step
 
@@ -144,19 +162,26 @@ drop_next [] (suc i) x rest e = cc
 drop_next (y ∷ ys) zero x rest e = cc
 drop_next (y ∷ ys) (suc i) x rest e = drop_next ys i x rest e
 
--- the use of a block is taken
-pub is_taken : (go : ℕ → List Step → Leads → Course) (i : ℕ) (steps : List Step) (n : ℕ) (r : Rule) (a : Leads) → is_step_that (uses_atom r n) (drop i steps) ≡ true →
-    by_use go i (drop i steps) n (Some r) a ≡ go (i + 1) (drop (i + 1) steps) a
-is_taken go i steps n r a h = by (drop i steps) (λ st rest e. drop_next steps i st rest e) h
+-- the use of a block is taken, or the step at its place fails
+pub is_used : (steps : List Step) (i n : ℕ) (r : Rule) → is_step_that (uses_atom r n) (drop i steps) ≡ true → IsBehindUse steps i n (Some r) (Some (i + 1))
+is_used steps i n r h = by (drop i steps) (λ st rest e. drop_next steps i st rest e) refl h
   where
-    by : (xs : List Step) → ((st : Step) (rest : List Step) → xs ≡ st ∷ rest → drop (suc i) steps ≡ rest) → is_step_that (uses_atom r n) xs ≡ true →
-        by_use go i xs n (Some r) a ≡ go (i + 1) (drop (i + 1) steps) a
-    by [] f h = cc
-    by (st ∷ rest) f h =
+    by : (xs : List Step) → ((st : Step) (rest : List Step) → xs ≡ st ∷ rest → drop (suc i) steps ≡ rest) → drop i steps ≡ xs → is_step_that (uses_atom r n) xs ≡ true →
+        IsBehindUse steps i n (Some r) (Some (i + 1))
+    by [] f e h = cc
+    by (st ∷ rest) f e h =
         let z : suc i ≡ i + 1 = omega arith in
-        ap (λ b. elim b as (λ _. Course) [ true ↦ go (suc i) rest a | false ↦ fails_at i st.rule ]) h
-        ∙ ap (λ zs. go (suc i) zs a) (sym (f st rest refl))
-        ∙ ap (λ k. go k (drop k steps) a) z
+        (st ∷ [], (e ∙ ap (λ zs. st ∷ zs) (sym (f st rest refl)) ∙ ap (λ k. st ∷ drop k steps) z, refl), h)
+
+pub not_used_there : (steps : List Step) (i n : ℕ) (r : Rule) → is_step_that (uses_atom r n) (drop i steps) ≡ false → IsBehindUse steps i n (Some r) None
+not_used_there steps i n r h go a = by (drop i steps) h
+  where
+    by : (xs : List Step) → is_step_that (uses_atom r n) xs ≡ false → by_use go i xs n (Some r) a ≡ fails_next i xs
+    by [] h = refl
+    by (st ∷ rest) h = ap (λ b. elim b as (λ _. Course) [ true ↦ go (suc i) rest a | false ↦ fails_at i st.rule ]) h
+
+pub none_owed : (steps : List Step) (i n : ℕ) → IsBehindUse steps i n None (Some i)
+none_owed steps i n = ([], (refl, limits.none i), tt)
 
 at_end_is : (i : ℕ) (s : State) (exit : Exit) (r : Option Content) (st : Step) (rest : List Step) → is_end st ≡ true → comes_to i s exit r rest ≡ at_end i s exit r (st ∷ rest)
 at_end_is i s exit r st rest h =

@@ -1,6 +1,7 @@
 -- What a check of an entry answers.
-use Rattle.std.specs.Prelude.{◌≡◌, ℕ, List, [], ◌∷◌, Option, Some, None, Result, Ok, Err, ⊤}
+use Rattle.std.specs.Prelude.{◌≡◌, ℕ, zero, suc, List, [], ◌∷◌, Option, Some, None, Result, Ok, Err, ⊤}
 use Rattle.px_terms.specs.declared.conjuncts.Content.{Content}
+use Rattle.px_entry.specs.declared.derivations.Derivation.{Derivation}
 use Rattle.px_entry.specs.declared.derivations.Rule.{Rule}
 use Rattle.px_entry.specs.declared.derivations.Step.{Step}
 use Rattle.px_entry.specs.declared.entries.Entry.{Entry}
@@ -11,6 +12,8 @@ use Rattle.px_callgraph.specs.Derivations.{Derives, FailsFirst}
 use Rattle.px_check.specs.declared.checked.Checked.{Checked}
 use Rattle.px_check.specs.declared.checked.CheckFault.{CheckFault}
 use Rattle.px_check.specs.declared.checked.CheckFault.TheVariants.{Refused, NoMemory}
+use Rattle.px_check.specs.declared.checked.TableFault.{TableFault}
+use Rattle.px_check.specs.declared.checked.TableFault.TheVariants as table
 
 -- what a `Checked` shows: its entry, and the job from which that derives, as plain data
 abbrev pub entry_of : Checked → Entry
@@ -45,3 +48,26 @@ abbrev pub IsAnswer : JobTree → Entry → List Step → Result Checked CheckFa
 IsAnswer j x steps (Ok c) = (entry_of c ≡ x) × (job_of c ≡ j) × Derives j x steps
 IsAnswer j x steps (Err (Refused i r y)) = (y ≡ x) × FailsFirst j x steps i r
 IsAnswer j x steps (Err NoMemory) = ⊤
+
+-- Each of these is the entry itself and its job, and derives by the derivation beside it; there are as many of all three.
+abbrev pub AreCheckedBy : JobTree → List Entry → List Derivation → List Checked → Type 0
+AreCheckedBy j [] [] [] = ⊤
+AreCheckedBy j (x ∷ xs) (d ∷ ds) (c ∷ cs) = (entry_of c ≡ x) × (job_of c ≡ j) × Derives j x d.steps × AreCheckedBy j xs ds cs
+AreCheckedBy j _ _ _ = ⊥
+
+-- the entry at this place is the first that isn't derived by the derivation beside it, of which this step fails first
+abbrev pub IsFirstRefused : JobTree → List Entry → List Derivation → ℕ → ℕ → Rule → Type 0
+IsFirstRefused j (x ∷ xs) (d ∷ ds) zero i r = FailsFirst j x d.steps i r
+IsFirstRefused j (x ∷ xs) (d ∷ ds) (suc n) i r = Derives j x d.steps × IsFirstRefused j xs ds n i r
+IsFirstRefused j _ _ n i r = ⊥
+
+-- The same of entries and the derivations beside them: all of them, where each derives; else the first that doesn't.
+abbrev pub AreAnswers : JobTree → List Entry → List Derivation → Result (List Checked) TableFault → Type 0
+AreAnswers j xs ds (Ok cs) = AreCheckedBy j xs ds cs
+AreAnswers j xs ds (Err (table.Refused n i r)) = IsFirstRefused j xs ds n i r
+AreAnswers j xs ds (Err table.NoMemory) = ⊤
+
+-- the fault of a table, of which the entry at this place has this one
+abbrev pub fault_of : ℕ → CheckFault → TableFault
+fault_of n (Refused i r x) = table.Refused n i r
+fault_of n NoMemory = table.NoMemory

@@ -1,9 +1,10 @@
 -- Where steps lead, as the code keeps it.
-use Rattle.std.specs.Prelude.{◌≡◌, ◌⊎◌, ℕ, suc, ◌+◌, ◌≤◌, true, List, drop, Option, Some, None, ⊤}
+use Rattle.std.specs.Prelude.{◌≡◌, ℕ, suc, ◌+◌, ◌≤◌, true, false, List, [], ◌∷◌, ◌++◌, length, drop, Option, Some, None, ⊤}
 use Rattle.px_entry.specs.declared.derivations.Rule.{Rule}
 use Rattle.px_entry.specs.declared.derivations.Step.{Step}
 use Rattle.px_callgraph.specs.declared.states.Way.TheVariants as way
 use Rattle.px_callgraph.specs.JobTree.{JobTree}
+use Rattle.px_callgraph.specs.declared.outcomes.StepOutcome.TheVariants.{Next}
 use Rattle.px_callgraph.specs.Alternatives as W
 use Rattle.px_callgraph.specs.Laws.{IsSorted}
 use Rattle.px_callgraph.specs.Derivations as D
@@ -13,26 +14,31 @@ use Rattle.px_check.specs.declared.turns.Turn.TheVariants.{Goes, Fails}
 use Rattle.px_check.specs.declared.steps.Course.{Course}
 use Rattle.px_check.specs.declared.steps.Course.TheVariants.{FailsAt, ComesTo}
 
--- the course after an act: it goes on from another step, or a step fails
-abbrev pub turned : ℕ → JobTree → List Step → Turn → D.Course
-turned n j steps (Goes i a) = D.course n j i (drop i steps) (leads_of a)
-turned n j steps (Fails i) = D.fails_next i (drop i steps)
+-- these are the steps from one place to another
+abbrev pub AreBetween : List Step → ℕ → ℕ → List Step → Type 0
+AreBetween steps i k taken = (drop i steps ≡ taken ++ drop k steps) × (k ≡ i + length taken)
 
--- the course after the use of a block: where one was owed and isn't taken, the next step fails
-abbrev pub used : (ℕ → List Step → W.Leads → D.Course) → List Step → ℕ → W.Leads → Option ℕ → D.Course
-used go steps i a None = D.fails_next i (drop i steps)
-used go steps i a (Some k) = go k (drop k steps) a
+-- the use of a block that was met just now, as the atom with this number, where one is owed by a rule; else no step
+abbrev pub IsUse : ℕ → Option Rule → List Step → Type 0
+IsUse n None [] = ⊤
+IsUse n (Some r) (st ∷ []) = D.uses_atom r n st ≡ true
+IsUse n _ _ = ⊥
 
--- it leads there without a step, or by a step
-abbrev pub IsTurn : JobTree → W.Walk → W.Leads → Type 0
-IsTurn j w a =
-    ((D.is_silent w.control ≡ true) × (D.take_listed j w way.On ≡ Some a))
-    ⊎ ((r : Rule) × (choices : List ℕ) × (D.item_step j w w.control r choices ≡ Some a))
+-- behind it a path goes on; where one is owed and isn't taken, the step at its place fails
+abbrev pub IsBehindUse : List Step → ℕ → ℕ → Option Rule → Option ℕ → Type 0
+IsBehindUse steps i n owed None = (go : ℕ → List Step → W.Leads → D.Course) (a : W.Leads) → D.by_use go i (drop i steps) n owed a ≡ D.fails_next i (drop i steps)
+IsBehindUse steps i n owed (Some k) = (taken : List Step) × AreBetween steps i k taken × IsUse n owed taken
 
--- a turn was taken, and at most two steps
-abbrev pub TakesTurn : JobTree → W.Walk → ℕ → Turn → Type 0
-TakesTurn j w i (Goes k a) = (k ≤ i + 2) × IsTurn j w (leads_of a)
-TakesTurn j w i (Fails k) = k ≤ i + 2
+-- it leads there without a step, or by a step, and by the use of a block that it meets
+abbrev pub IsTurn : JobTree → W.Walk → List Step → W.Leads → Type 0
+IsTurn j w [] a = (D.is_silent w.control ≡ true) × (D.take_listed j w way.On ≡ Some a)
+IsTurn j w (st ∷ used) a =
+    (D.is_silent w.control ≡ false) × (D.item_step j w w.control st.rule st.choices ≡ Some a) × IsUse (length w.state.atoms) (D.use_rule w.control st.rule) used
+
+-- A turn was taken, by the steps from one place to another; or a step fails, the next or the one behind it.
+abbrev pub TakesTurn : JobTree → List Step → W.Walk → ℕ → Turn → Type 0
+TakesTurn j steps w i (Goes k a) = (taken : List Step) × AreBetween steps i k taken × IsTurn j w taken (leads_of a)
+TakesTurn j steps w i (Fails k) = (k ≤ i + 2) × ((n : ℕ) → D.course (suc n) j i (drop i steps) (Next w) ≡ D.fails_next k (drop k steps))
 
 -- the steps after an `End` are those from the next place on
 abbrev pub course_of : List Step → Course → D.Course

@@ -1,4 +1,5 @@
 pub mod Steps
+pub mod Follows
 pub mod Courses
 pub mod Values
 pub mod Answers

@@ -25,6 +25,15 @@ pub enum CheckFault {
     NoMemory,
 }
 
+/// Why entries aren't given as `Checked`.
+#[derive(Drop)]
+pub enum TableFault {
+    /// The entry with this place, from 0, is the first that its steps don't derive, and of these the step with this place and
+    /// this rule is the first that fails, as in `CheckFault`.
+    Refused { entry: usize, step: u32, rule: Rule },
+    NoMemory,
+}
+
 impl Checked {
     ghost use Rattle.std.specs.Prelude.{◌≡◌};
     ghost use Rattle.px_check.specs.Answers.{entry_of};

@@ -1,4 +1,4 @@
-ghost use Rattle.std.specs.Prelude.{◌≡◌, ◌+◌, ◌<◌, ◌^◌, true, Bool, cond, Option, drop, IfOk};
+ghost use Rattle.std.specs.Prelude.{◌≡◌, ◌+◌, ◌<◌, ◌^◌, true, Bool, cond, Option, drop, All, IfOk, OnOk};
 ghost use Rattle.px_terms.specs.declared.conjuncts.Content.{Content as ContentOf};
 ghost use Rattle.px_entry.specs.declared.entries.Exit.{Exit as ExitOf};
 ghost use Rattle.px_callgraph.specs.declared.states.State.{State as StateOf};
@@ -6,13 +6,14 @@ ghost use Rattle.px_callgraph.specs.JobTree.{job_tree};
 ghost use Rattle.px_callgraph.specs.Laws.{IsSorted};
 ghost use Rattle.px_callgraph.specs.Derivations as spec;
 ghost use Rattle.px_check.specs.Steps.{is_step_that, is_end};
+ghost use Rattle.px_check.specs.Follows.{IsForkOf, IsForkFor};
 ghost use Rattle.px_check.specs.Courses.{course_of, place_of, IsSortedCourse};
 
+use crate::forks::{Fork, keep};
 use crate::turns::{Turn, do_next};
 use px_callgraph::{Job, State, StepOutcome};
 use px_entry::{Exit, Rule, Step};
 use px_terms::{Content, NoMemory};
-use px_walks::start;
 use std::alloc::Global;
 
 /// Where steps lead.
@@ -73,23 +74,37 @@ fn ended(steps: &[Step], place: u32, state: State, exit: Exit, given: Option<Con
     }
 }
 
-/// Follows steps from the start of a job's procedure.
-pub(crate) fn follow(alloc: Global, job: &Job, steps: &[Step]) -> Result<Course, NoMemory>
+/// Follows steps from where some of them led, and keeps the places that are wanted, the last of which comes first.
+pub(crate) fn follow<'a, 's>(
+    alloc: Global,
+    job: &'a Job,
+    steps: &'s [Step],
+    from: Fork<'a, 's>,
+    wanted: &[usize],
+    forks: &mut Vec<Fork<'a, 's>>,
+) -> Result<Course, NoMemory>
+    requires from { IsForkFor (job_tree job.now) steps.now from }
+    requires forks { All (IsForkOf (job_tree job.now)) forks.old.items }
     ensures runs { IfOk result (λ course. spec.RunsTo (job_tree job.now) steps.now (course_of steps.now course)) }
     ensures few { IfOk result (λ course. place_of course + 1 < 2 ^ 32) }
     ensures sorted { IfOk result (λ course. IsSortedCourse course) }
+    ensures forks { OnOk result (All (IsForkOf (job_tree job.now)) forks.new.items) }
 {
-    let mut place = 0;
-    let mut leads = StepOutcome::Next(start(alloc, job)?);
+    let mut place = from.place;
+    let mut leads = StepOutcome::Next(from.walk);
+    let mut left = wanted.len();
     loop {
         match leads {
-            StepOutcome::Next(walk) => match do_next(alloc, job, steps, place, walk)? {
-                Turn::Goes(next, to) => {
-                    place = next;
-                    leads = to;
+            StepOutcome::Next(walk) => {
+                left = keep(alloc, steps, place, &walk, wanted, left, forks)?;
+                match do_next(alloc, job, steps, place, walk)? {
+                    Turn::Goes(next, to) => {
+                        place = next;
+                        leads = to;
+                    }
+                    Turn::Fails(next) => return Ok(failed(steps, next)),
                 }
-                Turn::Fails(next) => return Ok(failed(steps, next)),
-            },
+            }
             StepOutcome::Ends(state, exit, given) => {
                 return Ok(ended(steps, place, state, exit, given));
             }

@@ -1,14 +1,12 @@
-ghost use Rattle.std.specs.Prelude.{◌≡◌, ◌+◌, ◌<◌, ◌≤◌, ◌^◌, ℕ, suc, true, List, drop, IfOk, IfSome};
+ghost use Rattle.std.specs.Prelude.{◌≡◌, ◌+◌, ◌<◌, ◌^◌, true, false, List, drop, IfOk};
 ghost use Rattle.px_core.specs.Control.{Item};
 ghost use Rattle.px_entry.specs.declared.derivations.Step.{Step as StepOf};
 ghost use Rattle.px_callgraph.specs.JobTree.{job_tree};
-ghost use Rattle.px_callgraph.specs.declared.outcomes.StepOutcome.TheVariants as outcome;
-ghost use Rattle.px_callgraph.specs.Alternatives as walks;
 ghost use Rattle.px_callgraph.specs.Derivations as spec;
 ghost use Rattle.px_walks.specs.Nexts.{items_from, IsNext};
 ghost use Rattle.px_walks.specs.Walks.{walk_of};
 ghost use Rattle.px_check.specs.Steps.{is_only, is_step_that};
-ghost use Rattle.px_check.specs.Courses.{turned, used, TakesTurn};
+ghost use Rattle.px_check.specs.Courses.{IsBehindUse, TakesTurn};
 
 use crate::listed::take_listed;
 use crate::named::is_same_rule;
@@ -69,8 +67,7 @@ fn is_used(steps: &[Step], place: u32, rule: Rule, atom: usize) -> bool
 // The next step after the use of a block, where one is owed; none where it fails.
 fn after_use(steps: &[Step], place: u32, owed: Option<Rule>, atom: usize) -> Option<u32>
     requires { place + 1 < 2 ^ 32 }
-    ensures place { IfSome result (λ behind. behind ≤ place + 1) }
-    ensures course { (go : ℕ → List StepOf → walks.Leads → spec.Course) (a : walks.Leads) → spec.by_use go place (drop place steps.now) atom owed a ≡ used go steps.now place a result }
+    ensures { IsBehindUse steps.now place atom owed result }
 {
     match owed {
         None => Some(place),
@@ -92,7 +89,7 @@ fn silent_turn<'a>(
     walk: Walk<'a>,
 ) -> Result<Turn<'a>, NoMemory>
     requires { spec.is_silent (walk_of walk).control ≡ true }
-    ensures { IfOk result (λ turn. TakesTurn (job_tree job.now) (walk_of walk.entry) place turn × ((n : ℕ) (steps : List StepOf) → spec.by_item (job_tree job.now) (spec.course n (job_tree job.now)) place (drop place steps) (walk_of walk.entry) true ≡ turned n (job_tree job.now) steps turn)) }
+    ensures { IfOk result (λ turn. (steps : List StepOf) → TakesTurn (job_tree job.now) steps (walk_of walk.entry) place turn) }
 {
     match take_listed(alloc, job, walk, Way::On)? {
         Some(leads) => Ok(Turn::Goes(place, leads)),
@@ -111,7 +108,8 @@ fn step_turn<'a>(
 ) -> Result<Turn<'a>, NoMemory>
     requires few { place + 2 < 2 ^ 32 }
     requires next { (rest : List Item) × IsNext next (walk_of walk).control rest }
-    ensures { IfOk result (λ turn. TakesTurn (job_tree job.now) (walk_of walk.entry) place turn × ((n : ℕ) → spec.by_step (job_tree job.now) (spec.course n (job_tree job.now)) place (drop place steps.now) (walk_of walk.entry) ≡ turned n (job_tree job.now) steps.now turn)) }
+    requires own { spec.is_silent (walk_of walk).control ≡ false }
+    ensures { IfOk result (TakesTurn (job_tree job.now) steps.now (walk_of walk.entry) place) }
 {
     let Some(step) = steps.get(place as usize) else {
         return Ok(Turn::Fails(place));
@@ -137,7 +135,7 @@ pub(crate) fn do_next<'a>(
     walk: Walk<'a>,
 ) -> Result<Turn<'a>, NoMemory>
     requires { place + 2 < 2 ^ 32 }
-    ensures { IfOk result (λ turn. TakesTurn (job_tree job.now) (walk_of walk.entry) place turn × ((n : ℕ) → spec.course (suc n) (job_tree job.now) place (drop place steps.now) (outcome.Next (walk_of walk.entry)) ≡ turned n (job_tree job.now) steps.now turn)) }
+    ensures { IfOk result (TakesTurn (job_tree job.now) steps.now (walk_of walk.entry) place) }
 {
     let next = next_item(&walk);
     if is_silent(next) {

@@ -17,7 +17,7 @@ use Rattle.px_explore.specs.declared.stops.Fork.{Fork}
 use Rattle.px_explore.specs.declared.stops.Stop.{Stop}
 use Rattle.px_explore.specs.declared.stops.Stop.TheVariants as S
 use Rattle.px_explore.specs.Stops.{prefix_of}
-use Rattle.std.specs.Prelude.{Result, Ok, Err, IfOk, OnOk}
+use Rattle.std.specs.Prelude.{Result, IfOk}
 use Rattle.std.specs.List.{list_all}
 use Rattle.px_terms.proofs.Tests.{never_both}
 use Rattle.px_plain.specs.Held.{HeldItem, held_vars, held_conjuncts}
@@ -66,10 +66,6 @@ kept_kept t D E (items, on) k = (items, record { stacked = on.stacked; conjuncts
 
 pub reached_items : (old : Trail) (A : List Conj → Type 0) (t : Trail) (D : List Conj → Type 0) (s : State) → IsBehind old A s → Reaches old A t D s → (items : List HeldItem) × IsOn t D items × AreOf s items
 reached_items old A t D s (p, items, at, after) r = let (above, on, of) = r p items at after in (above ++ items, on, of)
-
-pub ok_any : {T E : Type 0} (r : Result T E) {A : Type 0} → A → OnOk r A
-ok_any (Ok x) a = a
-ok_any (Err e) a = tt
 
 -- where nothing is opened
 pub weighs_closed : (old : Trail) (A : List Conj → Type 0) (t : Trail) (D : List Conj → Type 0) (s : State) → Reaches old A t D s → WeighsOn old A t D s W.Out

@@ -10,7 +10,7 @@ use Rattle.px_core.specs.declared.command.Comparison.{Comparison}
 use Rattle.px_core.specs.declared.command.Comparison.TheVariants.{Equal, Unequal, Less, AtMost, SamePlace, OtherPlace}
 use Rattle.px_core.specs.CommandTree.{CommandTree, assign, unset, read, test, choose, loop, leave, load, store, malloc, free, input, call, return, break, continue, stop, divide}
 use Rattle.px_meaning.specs.Values.{Value, BlockType, Word, Null, Block, Unwritten}
-use Rattle.px_meaning.specs.Heaps.{HeapMap, HeapBlock, HeapBlockState, with_block}
+use Rattle.px_meaning.specs.Heaps.{HeapMap, HeapBlockState, with_block}
 use Rattle.px_meaning.specs.Heaps as heap
 use Rattle.px_meaning.specs.Calls.{Halt, error, Ending, Returned, Failed}
 use Rattle.px_meaning.specs.Events.{Event, marks, reads, makes, mark}

@@ -20,14 +20,13 @@ use Rattle.px_syntax.specs.declared.typed_expression.Arithmetic.{Arithmetic}
 use Rattle.px_meaning.specs.TreeExecution.{Verdicts, Exit, falls, breaks, continues, returns, fails, Exits, with_fall, behind_body, Stores, failing, Takes, Declares, Assigns, Updates, Frees, TestsIf, Loops, GivesBack, Executes, ExecutesAll, Calculates, by_outcome}
 use Rattle.px_meaning.specs.TreeCalls.{first_locals, closes, TreeCallsWithin, SeenTreeCalls, TreeEvents}
 use Rattle.px_meaning.specs.CoreLaws.{EndsAlike}
-use Rattle.px_meaning.proofs.Taken.{some_to}
 use Rattle.px_meaning.proofs.Renamed.{Renaming, SameValue, SameValues, Tied, Within, value_wider, same_put, tied_put}
 use Rattle.px_meaning.proofs.RenamedSteps.{SameEnding, AgreeBut}
 use Rattle.px_meaning.proofs.RenamedRuns.{itself, same_cells, tied_itself, alike}
 use Rattle.px_meaning.proofs.TypedHeaps.{written_cells}
 use Rattle.px_meaning.proofs.TreeBegins.{Begins, Opens, OpensExits, BeginsAll, shorter, outcome_opens, verdict_opens, fall_opens, body_opens, failing_opens, loads_begin, calculates_begin, stores_begin, frees_begin, call_begins, takes_begin, loops_begin, runs_begin, all_runs_begin}
 use Rattle.px_meaning.proofs.TreeSeen.{tree_calls_to}
-use Rattle.px_meaning.proofs.RenamedTrees.{un, SameLocals, within_on, within_refl, locals_wider, locals_same_put, BothValue, BothErr, BothVerdict, outcome_both, verdict_both, two_both, pointer_both, uses_both, loads_both, calculates_both, call_both, eval_both, all_both, passes_both, test_both}
+use Rattle.px_meaning.proofs.RenamedTrees.{un, SameLocals, within_on, within_refl, locals_wider, locals_same_put, BothValue, BothErr, BothVerdict, outcome_both, verdict_both, pointer_both, uses_both, loads_both, calculates_both, call_both, eval_both, all_both, passes_both, test_both}
 
 abbrev SameExit : Renaming → Exit → Exit → Type 0
 SameExit R falls falls = ⊤

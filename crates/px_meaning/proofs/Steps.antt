@@ -7,7 +7,7 @@ use Rattle.px_base.specs.declared.trace.MarkKind.TheVariants.{Then, Else, Iter, 
 use Rattle.px_base.specs.declared.trace.Kind.TheVariants.{NullDereference, UseAfterFree, DoubleFree, UninitialisedRead}
 use Rattle.px_core.specs.CommandTree.{CommandTree, assign, unset, read, test, choose, loop, leave, load, store, malloc, free, input, call, return, break, continue, stop, divide}
 use Rattle.px_meaning.specs.Values.{Value, BlockType, Word, Null, Block, Unwritten}
-use Rattle.px_meaning.specs.Heaps.{HeapMap, HeapBlock, HeapBlockState, with_block}
+use Rattle.px_meaning.specs.Heaps.{HeapMap, HeapBlockState, with_block}
 use Rattle.px_meaning.specs.Heaps as heap
 use Rattle.px_meaning.specs.Calls.{error, Ending, Returned, Failed}
 use Rattle.px_meaning.specs.Events.{Event, marks, reads, makes, mark}

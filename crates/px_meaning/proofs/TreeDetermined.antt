@@ -16,7 +16,6 @@ use Rattle.px_syntax.specs.TypedTree.{Expression, get_char, no_expressions, an_e
 use Rattle.px_syntax.specs.declared.typed_expression.Arithmetic.{Arithmetic}
 use Rattle.px_meaning.specs.TreeExecution.{Verdicts, Exit, falls, breaks, continues, returns, fails, Exits, with_fall, behind_body, Stores, failing, Takes, Declares, Assigns, Updates, Frees, TestsIf, Loops, GivesBack, Executes, ExecutesAll, Calculates, by_outcome}
 use Rattle.px_meaning.specs.TreeCalls.{first_locals, closes, TreeCallsWithin, TreeEvents}
-use Rattle.px_meaning.proofs.Taken.{some_to}
 use Rattle.px_meaning.proofs.Pairs.{Agree}
 use Rattle.px_meaning.proofs.TreeBegins.{Begins, Opens, OpensExits, BeginsAll, shorter, outcome_opens, verdict_opens, fall_opens, body_opens, failing_opens, loads_begin, calculates_begin, stores_begin, frees_begin, call_begins, takes_begin, loops_begin, runs_begin, all_runs_begin}
 use Rattle.px_meaning.proofs.TreePairs.{see, Both, outcome_both, verdict_both, some_two, pointer_two, uses_pair, loads_pair, calculates_pair, call_pair, eval_pair, all_pair, passes_pair, test_pair}

@@ -1,9 +1,9 @@
 -- Quotients and remainders of numbers, and two small functions that divide, worked by hand.
-use Rattle.std.specs.Prelude.{◌≡◌, ℕ, pos, negsuc, List, [], ◌∷◌, Option, Some, None, slice_get}
+use Rattle.std.specs.Prelude.{◌≡◌, pos, negsuc, List, [], ◌∷◌, Some, None}
 use Rattle.px_base.specs.declared.trace.Kind.TheVariants.{DivisionByZero}
 use Rattle.px_core.specs.declared.command.Operand.TheVariants.{Slot}
 use Rattle.px_core.specs.declared.command.Operator.TheVariants.{Sub, Mul}
-use Rattle.px_core.specs.CommandTree.{CommandTree, commands_of, assign, read, divide, return}
+use Rattle.px_core.specs.CommandTree.{commands_of, assign, read, divide, return}
 use Rattle.px_core.specs.BodyTree.{BodyTree}
 use Rattle.px_syntax.specs.declared.typed_expression.Arithmetic.{Arithmetic}
 use Rattle.px_syntax.specs.declared.typed_expression.Arithmetic.TheVariants.{Divide, Remainder}

@@ -1,13 +1,14 @@
 -- Bytes are passed over in one way.
-use Rattle.std.proofs.Common.{◌≡◌, ◌≢◌, ℕ, zero, suc, ◌+◌, ◌*◌, ◌-◌, ◌<◌, ◌≤◌, List, [], ◌∷◌, ◌++◌, length, Option, Some, None, Bool, true, false, refl, sym, ap, subst, ◌∙◌, append_assoc, arith}
-use Rattle.std.specs.Prelude.{take, drop, nat_lt, if◌then◌else◌}
-use Rattle.std.proofs.lemmas.Bool.{lt-ltb, le-ltb, ltb-false}
+use Rattle.std.proofs.Common.{◌≡◌, ◌≢◌, ℕ, zero, suc, ◌+◌, ◌*◌, ◌-◌, ◌<◌, ◌≤◌, List, [], ◌∷◌, ◌++◌, length, slice_index_or, Option, Some, None, IfSome, Bor, Bool, true, false, refl, sym, ap, subst, ◌∙◌, append_assoc, arith}
+use Rattle.std.specs.Prelude.{take, drop, nat_lt, ◌==◌, if◌then◌else◌}
+use Rattle.std.proofs.lemmas.Bool.{lt-ltb, le-ltb, ltb-false, ne_eqb}
 use Rattle.std.proofs.lemmas.Option.{none-some, same_Some}
-use Rattle.std.proofs.lemmas.List.{length-append, length-drop, drop-drop, take-append-drop, take-append-le, drop-append-le}
+use Rattle.std.proofs.lemmas.List.{length-append, length-drop, drop-drop, take_all, take-append-drop, take-append-le, drop-append-le}
 use Rattle.std.proofs.Math.Seq.{drop-append_seam}
 use Rattle.px_parts.specs.declared.form.Form.{Form}
+use Rattle.px_parts.specs.declared.form.Form.TheVariants.{Byte, Word, MaybeWord, Value, Content, Polynomial}
 use Rattle.px_parts.specs.declared.form.Due.{Due}
-use Rattle.px_parts.specs.Forms.{size, due, follow, next_of, next, Passes, stands, moves}
+use Rattle.px_parts.specs.Forms.{size, due, due_only_at, follow_by, follow, next_of, next, Passes, stands, moves}
 
 -- ---- one step
 
@@ -171,10 +172,65 @@ pub passes_front_one : (f : Form) (bytes front after rest : List ℕ) (d : Due) 
 passes_front_one f bytes front after rest d there is_front is_after is one next =
     passes_front_of f bytes front after rest d there is_front is_after is (passes_single d after rest one next)
 
+pub passes_word : (bytes after : List ℕ) → 4 ≤ length bytes → after ≡ drop 4 bytes → (n : ℕ) (dues : List Due) → Passes (due Word (suc n) ∷ dues) bytes (due Word n ∷ dues) after
+passes_word bytes after there is =
+    passes_front_of Word bytes (take 4 bytes) after after (follow Word (take 4 bytes)) there refl is refl (λ ds. passes_no_more (follow Word (take 4 bytes)) ds after refl)
+
 pub passes_alone : (d : Due) (bytes rest : List ℕ) (all : ℕ) → ((front : List ℕ) → (follow d.form front).count ≡ 0) → all ≡ size d.form * d.count → all ≤ length bytes → rest ≡ drop all bytes →
     (dues : List Due) → Passes (d ∷ dues) bytes dues rest
 passes_alone d bytes rest all alone many there is dues =
     subst (λ l. Passes (d ∷ dues) bytes dues l) (ap (λ n. drop n bytes) (sym many) ∙ sym is) (passes_all d.form d.count dues bytes alone (subst (λ n. n ≤ length bytes) many there))
+
+-- ---- a byte that says what follows it
+
+-- one of a form is passed over, and these bytes are left
+abbrev PassesOne : Form → List ℕ → List ℕ → Type 0
+PassesOne f bytes rest = (n : ℕ) (dues : List Due) → Passes (due f (suc n) ∷ dues) bytes (due f n ∷ dues) rest
+
+-- the first byte, and those behind it
+abbrev first : List ℕ → ℕ
+first bytes = slice_index_or bytes 0 0
+
+abbrev others_of : List ℕ → List ℕ
+others_of bytes = take (length bytes - 1) (drop 1 bytes)
+
+first_and_others : (bytes : List ℕ) → 1 ≤ length bytes → bytes ≡ first bytes ∷ others_of bytes
+first_and_others [] some = absurd (omega (arith, some))
+first_and_others (b ∷ bytes) some =
+    let all : length bytes ≤ suc (length bytes) - 1 = omega arith in
+    ap (λ l. b ∷ l) (sym (take_all (suc (length bytes) - 1) bytes all))
+
+-- nothing follows it
+pub passes_lone_byte : (f : Form) (bytes : List ℕ) → 1 ≤ length bytes → size f ≡ 1 → (follow f (first bytes ∷ [])).count ≡ 0 → PassesOne f bytes (others_of bytes)
+passes_lone_byte f bytes some one none =
+    let is = first_and_others bytes some in
+    let front : List ℕ = first bytes ∷ [] in
+    passes_front_of f bytes front (others_of bytes) (others_of bytes) (follow f front) (rw one some) (rw one (ap (λ l. take 1 l) (sym is))) (rw one (ap (λ l. drop 1 l) (sym is))) refl
+    (λ ds. passes_no_more (follow f front) ds (others_of bytes) none)
+
+-- one of a form follows it
+byte_and_one : (f g : Form) (bytes rest : List ℕ) → 1 ≤ length bytes → size f ≡ 1 → follow f (first bytes ∷ []) ≡ due g 1 → PassesOne g (others_of bytes) rest → PassesOne f bytes rest
+byte_and_one f g bytes rest some one follows next =
+    let is = first_and_others bytes some in
+    passes_front_one f bytes (first bytes ∷ []) (others_of bytes) rest (due g 1) (rw one some) (rw one (ap (λ l. take 1 l) (sym is))) (rw one (ap (λ l. drop 1 l) (sym is))) (sym follows) refl next
+
+pub passes_byte_and_one : (f g : Form) (bytes : List ℕ) (behind : Option (Bor (List ℕ))) → 1 ≤ length bytes → size f ≡ 1 → follow f (first bytes ∷ []) ≡ due g 1 →
+    IfSome behind (λ rest. PassesOne g (others_of bytes) rest.now) → IfSome behind (λ rest. PassesOne f bytes rest.now)
+passes_byte_and_one f g bytes None some one follows next = tt
+passes_byte_and_one f g bytes (Some rest) some one follows next = byte_and_one f g bytes rest.now some one follows next
+
+pub only_at_another : (tag wanted : ℕ) (f : Form) → tag ≢ wanted → (due_only_at tag wanted f).count ≡ 0
+only_at_another tag wanted f other = ap (λ b. (if b then due f 1 else due Byte 0).count) (ne_eqb tag wanted other)
+
+pub value_alone : (tag : ℕ) → tag ≢ 0 → tag ≢ 2 → (follow_by Value tag).count ≡ 0
+value_alone tag a b = ap (λ t. (if t then due Word 1 else due_only_at tag 2 Word).count) (ne_eqb tag 0 a) ∙ only_at_another tag 2 Word b
+
+pub content_alone : (tag : ℕ) → tag ≢ 1 → tag ≢ 2 → tag ≢ 3 → (follow_by Content tag).count ≡ 0
+content_alone tag a b c =
+    ap (λ t. (if t then due Polynomial 1 else (if tag == 2 then due MaybeWord 1 else due_only_at tag 3 Word)).count) (ne_eqb tag 1 a)
+    ∙ ap (λ t. (if t then due MaybeWord 1 else due_only_at tag 3 Word).count) (ne_eqb tag 2 b) ∙ only_at_another tag 3 Word c
+
+-- ---- to the end
 
 meets : (a c u : List Due) (b d v : List ℕ) → Passes a b c d → next c d ≡ None → Passes a b u v → Passes u v c d
 meets a c _ b d _ first last stands = first

@@ -46,6 +46,7 @@ impl Reader {
                 start: 0,
                 left: length,
                 skim: Skim::new(alloc),
+                expected: 0,
             },
             refused: false,
         }

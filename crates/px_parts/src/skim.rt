@@ -1,4 +1,5 @@
 ghost use Rattle.std.specs.Prelude.{◌≡◌, ◌≢◌, ℕ, suc, List, ◌+◌, ◌*◌, ◌-◌, ◌<◌, ◌≤◌, ◌++◌, ◌∷◌, [], None, Some, length, drop, IfOk, IfSome, IfNone, OnOk};
+ghost use Rattle.px_parts.specs.declared.form.Form.TheVariants as at;
 ghost use Rattle.px_parts.specs.declared.skim.Known.TheVariants.{Short, Whole};
 ghost use Rattle.px_parts.specs.Forms.{due, next, Passes, entry_dues, dues_at};
 ghost use Rattle.px_parts.specs.Skims.{IsSkim, IsEnded};
@@ -160,9 +161,103 @@ fn pass_many(form: Form, count: u32, bytes: &[u8]) -> (u32, &[u8])
     (left, rest)
 }
 
-// The bytes behind one of a form, where they are there and no more is due in it than two fronts.
-#[tactic(auto, using(crate::proofs::Passing::passes_front_of, crate::proofs::Passing::passes_front_one))]
+// The bytes behind one of a form, where they are there and no more is due in it than two fronts. Of what there is most, there is a
+// function for each.
 fn behind_one(form: Form, bytes: &[u8]) -> Option<&[u8]>
+    ensures passes { IfSome result (λ rest. (n : ℕ) (dues : List Due) → Passes (due form (suc n) ∷ dues) bytes.now (due form n ∷ dues) rest.now) }
+    ensures shorter { IfSome result (λ rest. length rest.now < length bytes.now) }
+{
+    match form {
+        Form::Value => behind_value(bytes),
+        Form::Content => behind_content(bytes),
+        Form::Variable => behind_variable(bytes),
+        Form::Step => behind_step(bytes),
+        _ => behind_any(form, bytes),
+    }
+}
+
+fn behind_value(bytes: &[u8]) -> Option<&[u8]>
+    ensures passes { IfSome result (λ rest. (n : ℕ) (dues : List Due) → Passes (due at.Value (suc n) ∷ dues) bytes.now (due at.Value n ∷ dues) rest.now) }
+    ensures shorter { IfSome result (λ rest. length rest.now < length bytes.now) }
+{
+    match bytes {
+        [] => None,
+        [tag, after @ ..] => {
+            if *tag == 0 || *tag == 2 {
+                behind_word(after)
+            } else {
+                Some(after)
+            }
+        }
+    }
+}
+
+// Behind a content that is no word.
+fn behind_content(bytes: &[u8]) -> Option<&[u8]>
+    ensures passes { IfSome result (λ rest. (n : ℕ) (dues : List Due) → Passes (due at.Content (suc n) ∷ dues) bytes.now (due at.Content n ∷ dues) rest.now) }
+    ensures shorter { IfSome result (λ rest. length rest.now < length bytes.now) }
+{
+    match bytes {
+        [] => None,
+        [tag, after @ ..] => match *tag {
+            1 => None,
+            2 => behind_maybe_word(after),
+            3 => behind_word(after),
+            _ => Some(after),
+        },
+    }
+}
+
+fn behind_variable(bytes: &[u8]) -> Option<&[u8]>
+    ensures passes { IfSome result (λ rest. (n : ℕ) (dues : List Due) → Passes (due at.Variable (suc n) ∷ dues) bytes.now (due at.Variable n ∷ dues) rest.now) }
+    ensures shorter { IfSome result (λ rest. length rest.now < length bytes.now) }
+{
+    match bytes {
+        [] => None,
+        [_, after @ ..] => behind_maybe_word(after),
+    }
+}
+
+fn behind_step(bytes: &[u8]) -> Option<&[u8]>
+    ensures passes { IfSome result (λ rest. (n : ℕ) (dues : List Due) → Passes (due at.Step (suc n) ∷ dues) bytes.now (due at.Step n ∷ dues) rest.now) }
+    ensures shorter { IfSome result (λ rest. length rest.now < length bytes.now) }
+{
+    match bytes {
+        [] => None,
+        [_, after @ ..] => behind_front(Form::Words, after),
+    }
+}
+
+fn behind_maybe_word(bytes: &[u8]) -> Option<&[u8]>
+    ensures passes { IfSome result (λ rest. (n : ℕ) (dues : List Due) → Passes (due at.MaybeWord (suc n) ∷ dues) bytes.now (due at.MaybeWord n ∷ dues) rest.now) }
+    ensures shorter { IfSome result (λ rest. length rest.now < length bytes.now) }
+{
+    match bytes {
+        [] => None,
+        [tag, after @ ..] => {
+            if *tag == 1 {
+                behind_word(after)
+            } else {
+                Some(after)
+            }
+        }
+    }
+}
+
+#[tactic(auto, using(crate::proofs::Passing::passes_word))]
+fn behind_word(bytes: &[u8]) -> Option<&[u8]>
+    ensures passes { IfSome result (λ rest. (n : ℕ) (dues : List Due) → Passes (due at.Word (suc n) ∷ dues) bytes.now (due at.Word n ∷ dues) rest.now) }
+    ensures shorter { IfSome result (λ rest. length rest.now < length bytes.now) }
+{
+    if bytes.len() < 4 {
+        return None;
+    }
+    let (_, after) = bytes.split_at(4);
+    Some(after)
+}
+
+#[tactic(auto, using(crate::proofs::Passing::passes_front_of, crate::proofs::Passing::passes_front_one))]
+fn behind_any(form: Form, bytes: &[u8]) -> Option<&[u8]>
     ensures passes { IfSome result (λ rest. (n : ℕ) (dues : List Due) → Passes (due form (suc n) ∷ dues) bytes.now (due form n ∷ dues) rest.now) }
     ensures shorter { IfSome result (λ rest. length rest.now < length bytes.now) }
 {

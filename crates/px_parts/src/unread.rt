@@ -23,10 +23,12 @@ pub(crate) struct Unread {
     /// How many bytes of the message weren't taken.
     pub(crate) left: u32,
     pub(crate) skim: Skim,
+    /// How many bytes the part before had. As many are expected of what comes next.
+    pub(crate) expected: usize,
 }
 
-/// Takes as much of a piece as is left, and looks for the next part. What comes next is read once when its first bytes are there,
-/// and again when all are.
+/// Takes as much of a piece as is left, and looks for the next part. What comes next is read when as many bytes are there as the part
+/// before had, and again when all are.
 #[tactic(auto, using(crate::proofs::Answering::no_memory, crate::proofs::Skimming::skim_not_begun, crate::proofs::Holding::is_behind, crate::proofs::Holding::still_within, crate::proofs::Holding::how_many))]
 pub(crate) fn take_piece(
     alloc: Global,
@@ -41,7 +43,7 @@ pub(crate) fn take_piece(
 {
     let count = piece.len().min(unread.left as usize);
     hold(alloc, unread, first(piece, count))?;
-    if let Known::Short = look(unread) {
+    if let Known::Short = look_first(alloc, unread, count) {
         unread.left -= count as u32;
         let behind = count_held(unread);
         return answer(None, unread.place, behind, unread.left, false, count as u64);
@@ -155,7 +157,22 @@ fn look(unread: &mut Unread) -> Known
     unread.skim.pass(from_start(&unread.held, unread.start))
 }
 
-// Goes on to a place with so many bytes behind it, where so many more were taken.
+// Passes over what is held of what comes next, where so many bytes of it were taken last. As long as others are to come, this begins
+// where fewer are held than are expected, so that what isn't whole is seldom read.
+fn look_first(alloc: Global, unread: &mut Unread, count: usize) -> Known
+    requires within { unread.old.start ≤ length unread.old.held.items }
+    ensures same { IsSame unread.old unread.new }
+    ensures skim { IsSkim unread.old.place (held_in unread.old) unread.old.skim → IsSkim unread.old.place (held_in unread.old) unread.new.skim }
+    ensures short { IsSkim unread.old.place (held_in unread.old) unread.old.skim → result ≡ Short → IsStuck unread.old.place (held_in unread.old) }
+{
+    let are_few = count < unread.left as usize && count_held(unread) < unread.expected;
+    if are_few && !unread.skim.begun {
+        unread.skim = Skim::begin(alloc, unread.place);
+    }
+    look(unread)
+}
+
+// Goes on to a place with so many bytes behind it, where so many more were taken. A part has more bytes than a count, which has four.
 #[tactic(auto, using(crate::proofs::Skimming::skim_not_begun))]
 fn go_on(unread: &mut Unread, place: Place, behind: usize, count: u32)
     requires behind { behind ≤ length unread.old.held.items }
@@ -166,8 +183,13 @@ fn go_on(unread: &mut Unread, place: Place, behind: usize, count: u32)
     ensures left { unread.new.left ≡ unread.old.left - count }
     ensures held { held_in unread.new ≡ drop (length unread.old.held.items - behind) unread.old.held.items }
 {
+    let end = unread.held.len() - behind;
+    let passed = end.saturating_sub(unread.start);
+    if passed > 4 {
+        unread.expected = passed;
+    }
     unread.place = place;
-    unread.start = unread.held.len() - behind;
+    unread.start = end;
     unread.left -= count;
     unread.skim.begun = false;
 }

@@ -13,10 +13,6 @@ use Rattle.px_pieces.specs.Pieces.{AreOf}
 use Rattle.px_pool.specs.Derived.{AreDerived, FirstFails}
 use Rattle.px_pool.specs.Checks.{AreChecked, IsRefusal, AreRefusals}
 
--- how many entries are left after the next
-pub left_len : {A : Type 0} (m n : ℕ) (old new : List A) (x : A) → n + 1 ≡ m → m ≡ length old → old ≡ x ∷ new → n ≡ length new
-left_len m n old new x one all next = let more : length old ≡ suc (length new) = ap length next in omega (arith, one, all, more)
-
 -- what is checked so far, and the entries that are left, with their derivations from a place on
 pub record IsUnderWay (j : JobTree) (xs : List Entry) (ds : List Derivation) (all : List Checked) (left : List Entry) (place : ℕ) : Type 0 where
   pub entries_are : map entry_of all ++ left ≡ xs

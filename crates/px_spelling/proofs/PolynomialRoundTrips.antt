@@ -1,11 +1,10 @@
 -- Polynomials are read again as they were written.
-use Rattle.std.proofs.Common.{◌≡◌, true, refl}
-use Rattle.px_terms.specs.Polynomials.{Polynomial, most_monomials, most_degree}
-use Rattle.px_spelling.specs.Reading.{Reader, ◌>>=◌, done}
+use Rattle.std.proofs.Common.{refl}
+use Rattle.px_terms.specs.Polynomials.{most_monomials, most_degree}
 use Rattle.px_spelling.specs.Numbers.{u32_bytes, IsU32, u32_at}
-use Rattle.px_spelling.specs.Lists.{list_bytes, list_at}
-use Rattle.px_spelling.specs.Polynomials.{term_bytes, IsTerm, term_of, term_at, polynomial_bytes, IsPolynomialInRange, polynomial_of, polynomial_with, monomials_at, polynomial_at}
-use Rattle.px_spelling.proofs.RoundTrip.{ReadsAs, RoundTrip, done_reads, then_reads, ◌⊛◌, u32_round_trip, list_round_trip}
+use Rattle.px_spelling.specs.Lists.{list_bytes}
+use Rattle.px_spelling.specs.Polynomials.{term_bytes, IsTerm, term_of, term_at, polynomial_bytes, IsPolynomialInRange, monomials_at, polynomial_at}
+use Rattle.px_spelling.proofs.RoundTrip.{RoundTrip, done_reads, then_reads, ◌⊛◌, u32_round_trip, list_round_trip}
 use Rattle.px_spelling.proofs.NormalTest.{normal_is}
 
 pub term_round_trip : RoundTrip term_bytes IsTerm term_at

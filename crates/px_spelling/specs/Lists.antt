@@ -1,5 +1,5 @@
 -- Lists: how many items there are, and the items.
-use Rattle.std.specs.Prelude.{ℕ, zero, suc, Option, Some, None, ◌==◌, ◌≤◌, ◌<◌, ◌^◌, List, [], ◌∷◌, ◌++◌, length, nat_lt, if◌then◌else◌}
+use Rattle.std.specs.Prelude.{ℕ, zero, suc, Option, Some, None, ◌==◌, ◌≤◌, ◌<◌, List, [], ◌∷◌, ◌++◌, length, nat_lt, if◌then◌else◌}
 use Rattle.std.specs.List.{flat_map, AllByRecursion}
 use Rattle.px_spelling.specs.Reading.{Reader, ◌>>=◌, ◌<*>◌, done, nothing}
 use Rattle.px_spelling.specs.Numbers.{u8_at, u32_bytes, u32_at, IsU32}

@@ -1,8 +1,8 @@
 -- Numbers in bytes, high byte first.
-use Rattle.std.specs.Prelude.{◌≡◌, ℕ, ◌<◌, ◌^◌, ℤ, FitsSigned, List, [], ◌∷◌, length, take, drop, Some, None, nat_lt, if◌then◌else◌}
+use Rattle.std.specs.Prelude.{ℕ, ◌<◌, ◌^◌, ℤ, FitsSigned, List, [], ◌∷◌, length, take, drop, Some, None, nat_lt, if◌then◌else◌}
 use Rattle.std.specs.Int.{Width, w32, w64, byte_len, from_be_bytes, to_be_bytes}
 use Rattle.px_terms.specs.Words.{word, signed}
-use Rattle.px_spelling.specs.Reading.{Reader, ◌<*>◌, ◌>>=◌, done}
+use Rattle.px_spelling.specs.Reading.{Reader, ◌<*>◌, done}
 
 -- a byte
 abbrev pub u8_bytes : ℕ → List ℕ

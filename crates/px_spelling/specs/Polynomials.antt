@@ -1,5 +1,5 @@
 -- Polynomials in normal form.
-use Rattle.std.specs.Prelude.{ℕ, ◌^◌, List, [], ◌∷◌, ◌++◌, length, Bool, true, false, ◌&&◌, nat_lt, nat_le, if◌then◌else◌}
+use Rattle.std.specs.Prelude.{ℕ, ◌^◌, List, [], ◌∷◌, ◌++◌, length, Bool, true, ◌&&◌, nat_lt, nat_le, if◌then◌else◌}
 use Rattle.std.specs.Ordering.{is_lt}
 use Rattle.px_terms.specs.Terms.{Term, key_cmp, IsNormal}
 use Rattle.px_terms.specs.Polynomials.{Polynomial, most_monomials, most_degree}

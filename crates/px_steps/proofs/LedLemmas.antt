@@ -33,7 +33,7 @@ leads_through s d go = by_through s d go d.outcome
 -- ---- few blocks
 
 -- an act that passes no limit
-few_atoms : (d : Done) → passes d ≡ None → length d.state.atoms < 2 ^ 32
+pub few_atoms : (d : Done) → passes d ≡ None → length d.state.atoms < 2 ^ 32
 few_atoms d e =
     let s = d.state in
     let a = none_first (nat_lt most_marks (length s.trace), long.Trace) (drop 1 (limits_of d)) e in

@@ -19,10 +19,10 @@ use Rattle.px_entry.specs.Sorts.{is_long}
 use Rattle.px_entry.specs.Decided.{assume}
 use Rattle.px_callgraph.specs.declared.states.State.{State}
 use Rattle.px_callgraph.specs.States.{Outcome, goes, ends, on}
-use Rattle.px_callgraph.specs.declared.outcomes.StepOutcome.{StepOutcome}
 use Rattle.px_callgraph.specs.declared.outcomes.StepOutcome.TheVariants.{Next, Ends}
 use Rattle.px_callgraph.specs.Alternatives.{dropped, limited}
-use Rattle.px_steps.specs.Led.{led_of}
+use Rattle.px_steps.specs.Led.{at_state, led_of}
+use Rattle.px_steps.specs.declared.led.Led.{Led}
 use Rattle.px_match.specs.declared.path_limits.Growth.{Growth}
 use Rattle.px_match.specs.PathLimits.{passes_grown, Grows}
 use Rattle.px_match.proofs.PathLimitLemmas.{first_of, goes_on, ends_so, cut_on, cut_ended, next, none}
@@ -47,14 +47,14 @@ pub cut_at : (s : State) (g : Growth) (kind : LongKind) (u : State) (terms : Lis
 unfolding led_of
 cut_at s g kind u terms e h = cut_on s g kind u terms (λ z. z) e h
 
-pub cut_led : (r : Result (StepOutcome State) NoMemory) (s : State) (g : Growth) (u : State) (terms : List Polynomial) (kind : LongKind) →
+pub cut_led : (r : Result Led NoMemory) (s : State) (g : Growth) (u : State) (terms : List Polynomial) (kind : LongKind) →
     Some kind ≡ passes_grown s g → Grows s g (record { state = u; terms = terms; outcome = goes }) →
-    IfOk r (λ x. x ≡ dropped s (Long kind)) → IfOk r (λ x. x ≡ led_of s (record { state = u; terms = terms; outcome = goes }))
+    IfOk r (λ x. at_state x s ≡ dropped s (Long kind)) → IfOk r (λ x. at_state x s ≡ led_of s (record { state = u; terms = terms; outcome = goes }))
 cut_led r s g u terms kind e h k = IfOk-weaker r _ _ (λ x q. q ∙ cut_at s g kind u terms e h) k
 
-pub cut_end_led : (r : Result (StepOutcome State) NoMemory) (s : State) (g : Growth) (u : State) (exit : Exit) (result : Option Content) (kind : LongKind) →
+pub cut_end_led : (r : Result Led NoMemory) (s : State) (g : Growth) (u : State) (exit : Exit) (result : Option Content) (kind : LongKind) →
     Some kind ≡ passes_grown s g → Grows s g (record { state = u; terms = []; outcome = ends exit result }) →
-    IfOk r (λ x. x ≡ dropped s (Long kind)) → IfOk r (λ x. x ≡ led_of s (record { state = u; terms = []; outcome = ends exit result }))
+    IfOk r (λ x. at_state x s ≡ dropped s (Long kind)) → IfOk r (λ x. at_state x s ≡ led_of s (record { state = u; terms = []; outcome = ends exit result }))
 unfolding led_of
 cut_end_led r s g u exit result kind e h k = IfOk-weaker r _ _ (λ x q. q ∙ cut_ended s g kind u [] exit result (λ z. z) e h) k
 

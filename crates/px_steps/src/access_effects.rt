@@ -5,46 +5,51 @@ ghost use Rattle.px_entry.specs.declared.atoms.AtomState.TheVariants.{Live};
 ghost use Rattle.px_callgraph.specs.States as states;
 ghost use Rattle.px_callgraph.specs.Accesses as spec;
 ghost use Rattle.px_ways.specs.Atoms.{state_at};
+ghost use Rattle.px_steps.specs.Led.{at_state};
 ghost use Rattle.px_steps.specs.Accessing.{access_of, atom_growth, conjuncts_added, effect_at, led_freely};
 
 use crate::accesses::{Access, Effect};
+use crate::led::Led;
 use px_base::{FieldId, Kind, MarkKind, Site};
-use px_callgraph::{State, StepOutcome};
+use px_callgraph::State;
 use px_entry::Exit;
-use px_terms::{Conj, Content, NoMemory, Place};
+use px_terms::{Conj, Content, Items, NoMemory, Place};
 use px_ways::{cell_content, freed, freed_at, mark, place_at, set_slot, stored};
+use std::alloc::Global;
+use std::mem;
 
 /// A place is null, and is used so. As many conjuncts are new as `added` says.
 pub(crate) fn reach_null(
-    mut state: State,
+    state: &mut State,
     place: Place,
     access: &Access,
     added: usize,
-) -> Result<StepOutcome<State>, NoMemory>
-    requires { added ≡ conjuncts_added state (SamePlace place place_of.Null) }
-    ensures { IfOk result (λ r. r ≡ led_freely ((access_of access.now).null (states.assumed (SamePlace place place_of.Null) state))) }
+) -> Result<Led, NoMemory>
+    requires { added ≡ conjuncts_added state.old (SamePlace place place_of.Null) }
+    ensures { IfOk result (λ r. at_state r state.new ≡ led_freely ((access_of access.now).null (states.assumed (SamePlace place place_of.Null) state.old))) }
 {
-    join(&mut state, place, Place::Null, added)?;
+    join(state, place, Place::Null, added)?;
     use_null(state, access.site, &access.effect)
 }
 
 /// A place is that of the atom with a number, and is used so. As many conjuncts are new as `added` says.
 pub(crate) fn reach_atom(
-    mut state: State,
+    alloc: Global,
+    state: &mut State,
     place: Place,
     n: u32,
     access: Access,
     added: usize,
-) -> Result<StepOutcome<State>, NoMemory>
-    requires { added ≡ (atom_growth state place (slice_get state.atoms n)).conjuncts }
-    ensures { IfOk result (λ r. r ≡ led_freely (spec.reach_atom (access_of access) place n (slice_get state.atoms n) state)) }
+) -> Result<Led, NoMemory>
+    requires { added ≡ (atom_growth state.old place (slice_get state.old.atoms n)).conjuncts }
+    ensures { IfOk result (λ r. at_state r state.new ≡ led_freely (spec.reach_atom (access_of access) place n (slice_get state.old.atoms n) state.old)) }
 {
     match place_at(state.atoms.as_slice(), n) {
         Some(x) => {
-            join(&mut state, place, Place::Var(x), added)?;
-            use_atom(state, n as usize, access)
+            join(state, place, Place::Var(x), added)?;
+            use_atom(alloc, state, n as usize, access)
         }
-        None => Ok(StepOutcome::Next(state)),
+        None => Ok(Led::Goes),
     }
 }
 
@@ -60,34 +65,29 @@ fn join(state: &mut State, first: Place, second: Place, added: usize) -> Result<
 }
 
 // The procedure ends in a memory error, after a mark.
-fn fail(
-    mut state: State,
-    made: MarkKind,
-    kind: Kind,
-    site: Site,
-) -> Result<StepOutcome<State>, NoMemory>
-    ensures { IfOk result (λ r. r ≡ led_freely (states.fails kind site (states.marked made site state))) }
+fn fail(state: &mut State, made: MarkKind, kind: Kind, site: Site) -> Result<Led, NoMemory>
+    ensures { IfOk result (λ r. at_state r state.new ≡ led_freely (states.fails kind site (states.marked made site state.old))) }
 {
-    mark(&mut state, made, site)?;
-    Ok(StepOutcome::Ends(state, Exit::Error(kind, site), None))
+    mark(state, made, site)?;
+    Ok(Led::Ends(Exit::Error(kind, site), None))
 }
 
-fn use_null(mut state: State, site: Site, effect: &Effect) -> Result<StepOutcome<State>, NoMemory>
-    ensures { IfOk result (λ r. r ≡ led_freely ((effect_at site effect.now).null state)) }
+fn use_null(state: &mut State, site: Site, effect: &Effect) -> Result<Led, NoMemory>
+    ensures { IfOk result (λ r. at_state r state.new ≡ led_freely ((effect_at site effect.now).null state.old)) }
 {
     match effect {
         Effect::Load { .. } | Effect::Store { .. } => {
             fail(state, MarkKind::Access, Kind::NullDereference, site)
         }
         Effect::Free => {
-            mark(&mut state, MarkKind::FreeNull, site)?;
-            Ok(StepOutcome::Next(state))
+            mark(state, MarkKind::FreeNull, site)?;
+            Ok(Led::Goes)
         }
     }
 }
 
-fn use_freed(state: State, site: Site, effect: &Effect) -> Result<StepOutcome<State>, NoMemory>
-    ensures { IfOk result (λ r. r ≡ led_freely ((effect_at site effect.now).freed state)) }
+fn use_freed(state: &mut State, site: Site, effect: &Effect) -> Result<Led, NoMemory>
+    ensures { IfOk result (λ r. at_state r state.new ≡ led_freely ((effect_at site effect.now).freed state.old)) }
 {
     match effect {
         Effect::Load { .. } | Effect::Store { .. } => {
@@ -99,68 +99,67 @@ fn use_freed(state: State, site: Site, effect: &Effect) -> Result<StepOutcome<St
 
 /// The block of the atom with a number is used.
 pub(crate) fn use_atom(
-    state: State,
+    alloc: Global,
+    state: &mut State,
     n: usize,
     access: Access,
-) -> Result<StepOutcome<State>, NoMemory>
-    ensures { IfOk result (λ r. r ≡ led_freely (spec.use_atom (access_of access) n (slice_get state.atoms n) state)) }
+) -> Result<Led, NoMemory>
+    ensures { IfOk result (λ r. at_state r state.new ≡ led_freely (spec.use_atom (access_of access) n (slice_get state.old.atoms n) state.old)) }
 {
     match freed_at(state.atoms.as_slice(), n) {
         Some(true) => use_freed(state, access.site, &access.effect),
-        Some(false) => use_live(state, n, access.site, access.effect),
-        None => Ok(StepOutcome::Next(state)),
+        Some(false) => use_live(alloc, state, n, access.site, access.effect),
+        None => Ok(Led::Goes),
     }
 }
 
 // A live block is used.
 fn use_live(
-    state: State,
+    alloc: Global,
+    state: &mut State,
     n: usize,
     site: Site,
     effect: Effect,
-) -> Result<StepOutcome<State>, NoMemory>
-    ensures { IfOk result (λ r. (cells : List Content) → state_at state.atoms n ≡ Some (Live cells) → r ≡ led_freely ((effect_at site effect).live n cells state)) }
+) -> Result<Led, NoMemory>
+    ensures { IfOk result (λ r. (cells : List Content) → state_at state.old.atoms n ≡ Some (Live cells) → at_state r state.new ≡ led_freely ((effect_at site effect).live n cells state.old)) }
 {
     match effect {
         Effect::Load { to, field } => load(state, n, to, field, site),
-        Effect::Store { field, content } => store(state, n, field, content, site),
-        Effect::Free => free(state, n, site),
+        Effect::Store { field, content } => store(alloc, state, n, field, content, site),
+        Effect::Free => free(alloc, state, n, site),
     }
 }
 
-fn load(
-    mut state: State,
-    n: usize,
-    to: u32,
-    field: FieldId,
-    site: Site,
-) -> Result<StepOutcome<State>, NoMemory>
-    ensures { IfOk result (λ r. (cells : List Content) → state_at state.atoms n ≡ Some (Live cells) → r ≡ led_freely ((spec.load_access to field.0 site).live n cells state)) }
+fn load(state: &mut State, n: usize, to: u32, field: FieldId, site: Site) -> Result<Led, NoMemory>
+    ensures { IfOk result (λ r. (cells : List Content) → state_at state.old.atoms n ≡ Some (Live cells) → at_state r state.new ≡ led_freely ((spec.load_access to field.0 site).live n cells state.old)) }
 {
     let content = cell_content(state.atoms.as_slice(), n, field)?;
-    mark(&mut state, MarkKind::Access, site)?;
-    set_slot(&mut state, to, content);
-    Ok(StepOutcome::Next(state))
+    mark(state, MarkKind::Access, site)?;
+    set_slot(state, to, content);
+    Ok(Led::Goes)
 }
 
 fn store(
-    mut state: State,
+    alloc: Global,
+    state: &mut State,
     n: usize,
     field: FieldId,
     content: Content,
     site: Site,
-) -> Result<StepOutcome<State>, NoMemory>
-    ensures { IfOk result (λ r. (cells : List Content) → state_at state.atoms n ≡ Some (Live cells) → r ≡ led_freely ((spec.store_access field.0 content site).live n cells state)) }
+) -> Result<Led, NoMemory>
+    ensures { IfOk result (λ r. (cells : List Content) → state_at state.old.atoms n ≡ Some (Live cells) → at_state r state.new ≡ led_freely ((spec.store_access field.0 content site).live n cells state.old)) }
 {
-    mark(&mut state, MarkKind::Access, site)?;
-    state.atoms = stored(state.atoms, n, field, content);
-    Ok(StepOutcome::Next(state))
+    mark(state, MarkKind::Access, site)?;
+    let atoms = mem::replace(&mut state.atoms, Items::new(alloc));
+    state.atoms = stored(atoms, n, field, content);
+    Ok(Led::Goes)
 }
 
-fn free(mut state: State, n: usize, site: Site) -> Result<StepOutcome<State>, NoMemory>
-    ensures { IfOk result (λ r. (cells : List Content) → state_at state.atoms n ≡ Some (Live cells) → r ≡ led_freely ((spec.free_access site).live n cells state)) }
+fn free(alloc: Global, state: &mut State, n: usize, site: Site) -> Result<Led, NoMemory>
+    ensures { IfOk result (λ r. (cells : List Content) → state_at state.old.atoms n ≡ Some (Live cells) → at_state r state.new ≡ led_freely ((spec.free_access site).live n cells state.old)) }
 {
-    mark(&mut state, MarkKind::Freed, site)?;
-    state.atoms = freed(state.atoms, n);
-    Ok(StepOutcome::Next(state))
+    mark(state, MarkKind::Freed, site)?;
+    let atoms = mem::replace(&mut state.atoms, Items::new(alloc));
+    state.atoms = freed(atoms, n);
+    Ok(Led::Goes)
 }

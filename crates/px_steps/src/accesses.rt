@@ -7,20 +7,21 @@ ghost use Rattle.px_callgraph.specs.States.{begun};
 ghost use Rattle.px_callgraph.specs.Accesses as spec;
 ghost use Rattle.px_callgraph.specs.Accesses.{block_cells};
 ghost use Rattle.px_callgraph.specs.Commands as commands;
-ghost use Rattle.px_steps.specs.Led.{led_of};
+ghost use Rattle.px_steps.specs.Led.{at_state, led_of};
 ghost use Rattle.px_steps.specs.Accessing as accessing;
 ghost use Rattle.px_steps.specs.Accessing.{access_of, led_freely, used_by};
 ghost use Rattle.px_steps.specs.declared.accesses.Effect.TheVariants as effects;
 
 use crate::access_effects::{reach_atom, reach_null};
 use crate::control_acts::begin_alone;
+use crate::led::{self, Led};
 use crate::meetings::{reach_freed, reach_live};
 use crate::path_limits::COMMAND;
 use px_base::{FieldId, Site};
-use px_callgraph::{Job, State, StepOutcome, Way};
+use px_callgraph::{Job, State, Way};
 use px_core::Operand;
 use px_entry::Atom;
-use px_match::{Growth, cut, limit_passed, stands};
+use px_match::{Growth, limit_passed, stands};
 use px_terms::{BlockType, Conj, Content, NoMemory, Place, TypeId};
 use px_ways::{accessed, begin, cells_of};
 use std::alloc::Global;
@@ -82,14 +83,14 @@ pub(crate) fn freeing(block: TypeId, site: Site) -> Access
 pub(crate) fn pointer_act(
     alloc: Global,
     job: &Job,
-    state: State,
+    state: &mut State,
     at: Operand,
     access: Access,
     way: Way,
-) -> Result<StepOutcome<State>, NoMemory>
-    ensures { IfOk result (λ r. r ≡ led_of state (commands.pointer_done (job_tree job.now) access.block at (access_of access) way (begun state))) }
+) -> Result<Led, NoMemory>
+    ensures { IfOk result (λ r. at_state r state.new ≡ led_of state.old (commands.pointer_done (job_tree job.now) access.block at (access_of access) way (begun state.old))) }
 {
-    match accessed(&state, access.block, at) {
+    match accessed(state, access.block, at) {
         Some(place) => access_act(alloc, job.types.as_slice(), state, place, access, way),
         None => begin_alone(alloc, state),
     }
@@ -99,16 +100,16 @@ pub(crate) fn pointer_act(
 fn access_act(
     alloc: Global,
     types: &[BlockType],
-    state: State,
+    state: &mut State,
     place: Place,
     access: Access,
     way: Way,
-) -> Result<StepOutcome<State>, NoMemory>
-    ensures { IfOk result (λ r. r ≡ led_of state (spec.access_done types.now access.block (access_of access) place way (begun state))) }
+) -> Result<Led, NoMemory>
+    ensures { IfOk result (λ r. at_state r state.new ≡ led_of state.old (spec.access_done types.now access.block (access_of access) place way (begun state.old))) }
 {
-    let growth = access_growth(types, &state, access.block, place, way);
-    match limit_passed(&state, &growth) {
-        Some(kind) => cut(alloc, state, kind),
+    let growth = access_growth(types, state, access.block, place, way);
+    match limit_passed(state, &growth) {
+        Some(kind) => led::cut(alloc, state, kind),
         None => reach(alloc, types, state, place, access, way, &growth),
     }
 }
@@ -179,23 +180,23 @@ fn missing_growth(place: Place, cells: usize) -> Growth
 fn reach(
     alloc: Global,
     types: &[BlockType],
-    mut state: State,
+    state: &mut State,
     place: Place,
     access: Access,
     way: Way,
     added: &Growth,
-) -> Result<StepOutcome<State>, NoMemory>
-    requires added { added.now ≡ accessing.access_growth types.now state access.block place way }
-    requires steps { state.steps < most_steps }
-    requires few { length state.vars + added.now.variables ≤ most_variables }
-    ensures { IfOk result (λ r. r ≡ led_freely (spec.access_done types.now access.block (access_of access) place way (begun state))) }
+) -> Result<Led, NoMemory>
+    requires added { added.now ≡ accessing.access_growth types.now state.old access.block place way }
+    requires steps { state.old.steps < most_steps }
+    requires few { length state.old.vars + added.now.variables ≤ most_variables }
+    ensures { IfOk result (λ r. at_state r state.new ≡ led_freely (spec.access_done types.now access.block (access_of access) place way (begun state.old))) }
 {
-    begin(&mut state);
+    begin(state);
     match way {
         Way::Null => reach_null(state, place, &access, added.conjuncts),
-        Way::Atom(n) => reach_atom(state, place, n, access, added.conjuncts),
+        Way::Atom(n) => reach_atom(alloc, state, place, n, access, added.conjuncts),
         Way::MissingLive => reach_live(alloc, types, state, place, access),
-        Way::MissingFreed => reach_freed(state, place, access),
-        _ => Ok(StepOutcome::Next(state)),
+        Way::MissingFreed => reach_freed(alloc, state, place, access),
+        _ => Ok(Led::Goes),
     }
 }

@@ -8,13 +8,14 @@ ghost use Rattle.px_callgraph.specs.States as states;
 ghost use Rattle.px_callgraph.specs.Commands as commands;
 ghost use Rattle.px_entry.specs.Contents.{variable_content};
 ghost use Rattle.px_terms.specs.declared.types.ValueType.TheVariants as value;
-ghost use Rattle.px_steps.specs.Led.{led_of};
+ghost use Rattle.px_steps.specs.Led.{at_state, led_of};
 
 use crate::control_acts::begin_alone;
+use crate::led::{self, Led};
 use crate::path_limits::{COMMAND, MARKED};
 use px_base::{MarkKind, Site};
-use px_callgraph::{Job, State, StepOutcome, Way};
-use px_match::{Growth, cut, limit_passed};
+use px_callgraph::{Job, State, Way};
+use px_match::{Growth, limit_passed};
 use px_terms::{BlockType, Content, NoMemory, Place, TypeId};
 use px_ways::{begin, mark, set_slot, take_block};
 use std::alloc::Global;
@@ -23,18 +24,18 @@ use std::alloc::Global;
 #[tactic(auto, unfolding(crate::specs::Led::led_of))]
 pub(crate) fn give(
     alloc: Global,
-    mut state: State,
+    state: &mut State,
     to: u32,
     content: Content,
-) -> Result<StepOutcome<State>, NoMemory>
-    ensures { IfOk result (λ r. r ≡ led_of state (on (states.set_slot to content (begun state)))) }
+) -> Result<Led, NoMemory>
+    ensures { IfOk result (λ r. at_state r state.new ≡ led_of state.old (on (states.set_slot to content (begun state.old)))) }
 {
-    match limit_passed(&state, &COMMAND) {
-        Some(kind) => cut(alloc, state, kind),
+    match limit_passed(state, &COMMAND) {
+        Some(kind) => led::cut(alloc, state, kind),
         None => {
-            begin(&mut state);
-            set_slot(&mut state, to, content);
-            Ok(StepOutcome::Next(state))
+            begin(state);
+            set_slot(state, to, content);
+            Ok(Led::Goes)
         }
     }
 }
@@ -42,19 +43,19 @@ pub(crate) fn give(
 /// `malloc` gives null.
 pub(crate) fn give_no_block(
     alloc: Global,
-    mut state: State,
+    state: &mut State,
     to: u32,
     site: Site,
-) -> Result<StepOutcome<State>, NoMemory>
-    ensures { IfOk result (λ r. r ≡ led_of state (on (states.set_slot to (content.Place place.Null) (marked kind.NoBlock site (begun state))))) }
+) -> Result<Led, NoMemory>
+    ensures { IfOk result (λ r. at_state r state.new ≡ led_of state.old (on (states.set_slot to (content.Place place.Null) (marked kind.NoBlock site (begun state.old))))) }
 {
-    match limit_passed(&state, &MARKED) {
-        Some(kind) => cut(alloc, state, kind),
+    match limit_passed(state, &MARKED) {
+        Some(kind) => led::cut(alloc, state, kind),
         None => {
-            begin(&mut state);
-            mark(&mut state, MarkKind::NoBlock, site)?;
-            set_slot(&mut state, to, Content::Place(Place::Null));
-            Ok(StepOutcome::Next(state))
+            begin(state);
+            mark(state, MarkKind::NoBlock, site)?;
+            set_slot(state, to, Content::Place(Place::Null));
+            Ok(Led::Goes)
         }
     }
 }
@@ -63,13 +64,13 @@ pub(crate) fn give_no_block(
 pub(crate) fn make(
     alloc: Global,
     job: &Job,
-    state: State,
+    state: &mut State,
     to: u32,
     block: TypeId,
     site: Site,
     way: Way,
-) -> Result<StepOutcome<State>, NoMemory>
-    ensures { IfOk result (λ r. r ≡ led_of state (commands.malloc_done (job_tree job.now).types to block site way (begun state))) }
+) -> Result<Led, NoMemory>
+    ensures { IfOk result (λ r. at_state r state.new ≡ led_of state.old (commands.malloc_done (job_tree job.now).types to block site way (begun state.old))) }
 {
     match way {
         Way::Null => give_no_block(alloc, state, to, site),
@@ -82,12 +83,12 @@ pub(crate) fn make(
 fn give_block(
     alloc: Global,
     types: &[BlockType],
-    mut state: State,
+    state: &mut State,
     to: u32,
     block: TypeId,
     site: Site,
-) -> Result<StepOutcome<State>, NoMemory>
-    ensures { IfOk result (λ r. r ≡ led_of state (on (states.set_slot to (variable_content (value.Pointer block) (length state.vars)) (commands.make types.now block (marked kind.Got site (begun state)))))) }
+) -> Result<Led, NoMemory>
+    ensures { IfOk result (λ r. at_state r state.new ≡ led_of state.old (on (states.set_slot to (variable_content (value.Pointer block) (length state.old.vars)) (commands.make types.now block (marked kind.Got site (begun state.old)))))) }
 {
     let growth = Growth {
         marks: 1,
@@ -95,11 +96,11 @@ fn give_block(
         variables: 1,
         ..COMMAND
     };
-    match limit_passed(&state, &growth) {
-        Some(passed) => cut(alloc, state, passed),
+    match limit_passed(state, &growth) {
+        Some(passed) => led::cut(alloc, state, passed),
         None => {
-            take_block(alloc, types, &mut state, to, block, site)?;
-            Ok(StepOutcome::Next(state))
+            take_block(alloc, types, state, to, block, site)?;
+            Ok(Led::Goes)
         }
     }
 }

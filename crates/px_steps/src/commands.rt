@@ -3,13 +3,14 @@ ghost use Rattle.px_core.specs.CommandTree.{command_tree};
 ghost use Rattle.px_callgraph.specs.JobTree.{job_tree};
 ghost use Rattle.px_callgraph.specs.Commands as spec;
 ghost use Rattle.px_steps.specs.Accessing.{is_access};
-ghost use Rattle.px_steps.specs.Led.{led_of};
+ghost use Rattle.px_steps.specs.Led.{at_state, led_of};
 
 use crate::accesses::{freeing, loading, pointer_act, storing};
 use crate::block_acts::{give, make};
 use crate::control_acts::{begin_alone, break_loop, enter, leave, mark_alone, stop};
 use crate::divide_acts::divide;
 use crate::input_acts::input;
+use crate::led::Led;
 use crate::reads::read;
 use crate::return_acts::return_from;
 use crate::test_acts::{Test, take_side};
@@ -21,15 +22,29 @@ use px_terms::{Content, NoMemory};
 use std::alloc::Global;
 
 /// Where a way of a command leads from a state, listed or not. A call is only entered.
-#[tactic(auto, using(px_core::proofs::CommandEquations::trees))]
 pub fn command_act(
     alloc: Global,
     job: &Job,
-    state: State,
+    mut state: State,
     command: &Command,
     way: Way,
 ) -> Result<StepOutcome<State>, NoMemory>
     ensures { IfOk result (λ r. r ≡ led_of state (spec.command_done (job_tree job.now) (command_tree command.now) way state)) }
+{
+    let led = command_act_in(alloc, job, &mut state, command, way)?;
+    Ok(led.with_state(state))
+}
+
+/// The same where the state is changed in its place. After `NoMemory` it may be part of the way.
+#[tactic(auto, using(px_core::proofs::CommandEquations::trees))]
+pub fn command_act_in(
+    alloc: Global,
+    job: &Job,
+    state: &mut State,
+    command: &Command,
+    way: Way,
+) -> Result<Led, NoMemory>
+    ensures { IfOk result (λ r. at_state r state.new ≡ led_of state.old (spec.command_done (job_tree job.now) (command_tree command.now) way state.old)) }
 {
     match command {
         Command::Assign { to, op, a, b } => assign(alloc, state, *to, *op, *a, *b),
@@ -63,12 +78,12 @@ pub fn command_act(
 fn access(
     alloc: Global,
     job: &Job,
-    state: State,
+    state: &mut State,
     command: &Command,
     way: Way,
-) -> Result<StepOutcome<State>, NoMemory>
+) -> Result<Led, NoMemory>
     requires access { is_access (command_tree command.now) ≡ true }
-    ensures { IfOk result (λ r. r ≡ led_of state (spec.command_done (job_tree job.now) (command_tree command.now) way state)) }
+    ensures { IfOk result (λ r. at_state r state.new ≡ led_of state.old (spec.command_done (job_tree job.now) (command_tree command.now) way state.old)) }
 {
     match command {
         Command::Load {
@@ -88,7 +103,7 @@ fn access(
             from,
             site,
         } => {
-            let content = operand_of(alloc, &state, *from)?;
+            let content = operand_of(alloc, state, *from)?;
             let used = storing(*block, *site, *field, content);
             pointer_act(alloc, job, state, *at, used, way)
         }

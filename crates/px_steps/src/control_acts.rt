@@ -3,64 +3,61 @@ ghost use Rattle.px_base.specs.declared.trace.MarkKind.TheVariants as kind;
 ghost use Rattle.px_callgraph.specs.States.{on, begun, marked, stops};
 ghost use Rattle.px_callgraph.specs.States as states;
 ghost use Rattle.px_callgraph.specs.Commands as commands;
-ghost use Rattle.px_steps.specs.Led.{led_of};
+ghost use Rattle.px_steps.specs.Led.{at_state, led_of};
 
+use crate::led::{self, Led};
 use crate::path_limits::{COMMAND, MARKED};
 use px_base::{MarkKind, Site};
 use px_callgraph::{State, StepOutcome};
 use px_entry::Cause;
-use px_match::{Growth, cut, limit_passed};
+use px_match::{Growth, limit_passed};
 use px_terms::NoMemory;
 use px_ways::{begin, close_loop, innermost, mark, open_loop};
 use std::alloc::Global;
 
 /// Nothing is done but to begin the command.
 #[tactic(auto, unfolding(crate::specs::Led::led_of))]
-pub(crate) fn begin_alone(alloc: Global, mut state: State) -> Result<StepOutcome<State>, NoMemory>
-    ensures { IfOk result (λ r. r ≡ led_of state (on (begun state))) }
+pub(crate) fn begin_alone(alloc: Global, state: &mut State) -> Result<Led, NoMemory>
+    ensures { IfOk result (λ r. at_state r state.new ≡ led_of state.old (on (begun state.old))) }
 {
-    match limit_passed(&state, &COMMAND) {
-        Some(kind) => cut(alloc, state, kind),
+    match limit_passed(state, &COMMAND) {
+        Some(kind) => led::cut(alloc, state, kind),
         None => {
-            begin(&mut state);
-            Ok(StepOutcome::Next(state))
+            begin(state);
+            Ok(Led::Goes)
         }
     }
 }
 
 /// What isn't understood is reached: the path isn't followed, unless the command is one too many.
 #[tactic(auto, unfolding(crate::specs::Led::led_of))]
-pub(crate) fn stop(alloc: Global, state: State, word: u32) -> Result<StepOutcome<State>, NoMemory>
-    ensures { IfOk result (λ r. r ≡ led_of state (stops word (begun state))) }
+pub(crate) fn stop(alloc: Global, state: &mut State, word: u32) -> Result<Led, NoMemory>
+    ensures { IfOk result (λ r. at_state r state.new ≡ led_of state.old (stops word (begun state.old))) }
 {
-    match limit_passed(&state, &COMMAND) {
-        Some(kind) => cut(alloc, state, kind),
-        None => StepOutcome::dropped(alloc, state, Cause::Outside(word)),
+    match limit_passed(state, &COMMAND) {
+        Some(kind) => led::cut(alloc, state, kind),
+        None => led::dropped(alloc, state, Cause::Outside(word)),
     }
 }
 
 /// A loop is entered.
 #[tactic(auto, unfolding(crate::specs::Led::led_of))]
-pub(crate) fn enter(
-    alloc: Global,
-    mut state: State,
-    site: Site,
-) -> Result<StepOutcome<State>, NoMemory>
-    ensures { IfOk result (λ r. r ≡ led_of state (on (commands.enter_loop site (begun state)))) }
+pub(crate) fn enter(alloc: Global, state: &mut State, site: Site) -> Result<Led, NoMemory>
+    ensures { IfOk result (λ r. at_state r state.new ≡ led_of state.old (on (commands.enter_loop site (begun state.old)))) }
 {
-    match limit_passed(&state, &COMMAND) {
-        Some(kind) => cut(alloc, state, kind),
+    match limit_passed(state, &COMMAND) {
+        Some(kind) => led::cut(alloc, state, kind),
         None => {
-            begin(&mut state);
-            open_loop(&mut state, site, 0)?;
-            Ok(StepOutcome::Next(state))
+            begin(state);
+            open_loop(state, site, 0)?;
+            Ok(Led::Goes)
         }
     }
 }
 
 /// The innermost loop is left at its condition.
-pub(crate) fn leave(alloc: Global, state: State) -> Result<StepOutcome<State>, NoMemory>
-    ensures { IfOk result (λ r. r ≡ led_of state (commands.leaving (commands.last_loop state.loops) (begun state))) }
+pub(crate) fn leave(alloc: Global, state: &mut State) -> Result<Led, NoMemory>
+    ensures { IfOk result (λ r. at_state r state.new ≡ led_of state.old (commands.leaving (commands.last_loop state.old.loops) (begun state.old))) }
 {
     match innermost(state.loops.as_slice()) {
         Some((site, _)) => leave_at(alloc, state, site),
@@ -69,31 +66,31 @@ pub(crate) fn leave(alloc: Global, state: State) -> Result<StepOutcome<State>, N
 }
 
 // The innermost loop is left, and is marked at its place.
-fn leave_at(alloc: Global, mut state: State, site: Site) -> Result<StepOutcome<State>, NoMemory>
-    ensures { IfOk result (λ r. r ≡ led_of state (on (commands.leave_loop (marked kind.Done site (begun state))))) }
+fn leave_at(alloc: Global, state: &mut State, site: Site) -> Result<Led, NoMemory>
+    ensures { IfOk result (λ r. at_state r state.new ≡ led_of state.old (on (commands.leave_loop (marked kind.Done site (begun state.old))))) }
 {
-    match limit_passed(&state, &MARKED) {
-        Some(kind) => cut(alloc, state, kind),
+    match limit_passed(state, &MARKED) {
+        Some(kind) => led::cut(alloc, state, kind),
         None => {
-            begin(&mut state);
-            mark(&mut state, MarkKind::Done, site)?;
-            close_loop(&mut state);
-            Ok(StepOutcome::Next(state))
+            begin(state);
+            mark(state, MarkKind::Done, site)?;
+            close_loop(state);
+            Ok(Led::Goes)
         }
     }
 }
 
 /// The innermost loop ends.
 #[tactic(auto, unfolding(crate::specs::Led::led_of))]
-pub(crate) fn break_loop(alloc: Global, mut state: State) -> Result<StepOutcome<State>, NoMemory>
-    ensures { IfOk result (λ r. r ≡ led_of state (on (commands.leave_loop (begun state)))) }
+pub(crate) fn break_loop(alloc: Global, state: &mut State) -> Result<Led, NoMemory>
+    ensures { IfOk result (λ r. at_state r state.new ≡ led_of state.old (on (commands.leave_loop (begun state.old)))) }
 {
-    match limit_passed(&state, &COMMAND) {
-        Some(kind) => cut(alloc, state, kind),
+    match limit_passed(state, &COMMAND) {
+        Some(kind) => led::cut(alloc, state, kind),
         None => {
-            begin(&mut state);
-            close_loop(&mut state);
-            Ok(StepOutcome::Next(state))
+            begin(state);
+            close_loop(state);
+            Ok(Led::Goes)
         }
     }
 }
@@ -101,18 +98,18 @@ pub(crate) fn break_loop(alloc: Global, mut state: State) -> Result<StepOutcome<
 /// Nothing is done but to mark the command.
 pub(crate) fn mark_alone(
     alloc: Global,
-    mut state: State,
+    state: &mut State,
     kind: MarkKind,
     site: Site,
-) -> Result<StepOutcome<State>, NoMemory>
-    ensures { IfOk result (λ r. r ≡ led_of state (on (marked kind site (begun state)))) }
+) -> Result<Led, NoMemory>
+    ensures { IfOk result (λ r. at_state r state.new ≡ led_of state.old (on (marked kind site (begun state.old)))) }
 {
-    match limit_passed(&state, &MARKED) {
-        Some(passed) => cut(alloc, state, passed),
+    match limit_passed(state, &MARKED) {
+        Some(passed) => led::cut(alloc, state, passed),
         None => {
-            begin(&mut state);
-            mark(&mut state, kind, site)?;
-            Ok(StepOutcome::Next(state))
+            begin(state);
+            mark(state, kind, site)?;
+            Ok(Led::Goes)
         }
     }
 }
@@ -125,40 +122,42 @@ pub fn iteration_act(
     unroll: u32,
     site: Site,
     made: u32,
-    state: State,
+    mut state: State,
 ) -> Result<StepOutcome<State>, NoMemory>
     ensures { IfOk result (λ r. r ≡ led_of state (commands.iteration unroll site made state)) }
 {
     if made < unroll {
-        turn(alloc, site, made + 1, state)
+        let led = iteration_act_in(alloc, site, made + 1, &mut state)?;
+        Ok(led.with_state(state))
     } else {
         Ok(StepOutcome::Past(state))
     }
 }
 
-// The body is begun once more, so often now.
-fn turn(
+/// The body of the innermost loop is begun once more, so often now, whatever the bound. The state is changed in its place:
+/// after `NoMemory` it may be part of the way.
+pub fn iteration_act_in(
     alloc: Global,
     site: Site,
     made: u32,
-    mut state: State,
-) -> Result<StepOutcome<State>, NoMemory>
-    ensures { IfOk result (λ r. r ≡ led_of state (on (commands.repeat_loop site made (marked kind.Iter site state)))) }
+    state: &mut State,
+) -> Result<Led, NoMemory>
+    ensures { IfOk result (λ r. at_state r state.new ≡ led_of state.old (on (commands.repeat_loop site made (marked kind.Iter site state.old)))) }
 {
     match limit_passed(
-        &state,
+        state,
         &Growth {
             marks: 1,
             commands: 0,
             ..COMMAND
         },
     ) {
-        Some(kind) => cut(alloc, state, kind),
+        Some(kind) => led::cut(alloc, state, kind),
         None => {
-            mark(&mut state, MarkKind::Iter, site)?;
-            close_loop(&mut state);
-            open_loop(&mut state, site, made)?;
-            Ok(StepOutcome::Next(state))
+            mark(state, MarkKind::Iter, site)?;
+            close_loop(state);
+            open_loop(state, site, made)?;
+            Ok(Led::Goes)
         }
     }
 }

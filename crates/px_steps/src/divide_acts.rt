@@ -7,17 +7,18 @@ ghost use Rattle.px_callgraph.specs.States.{on, fails, begun, assumed, operand_c
 ghost use Rattle.px_callgraph.specs.States as states;
 ghost use Rattle.px_callgraph.specs.Commands as commands;
 ghost use Rattle.px_callgraph.specs.declared.states.Way.TheVariants as way;
-ghost use Rattle.px_steps.specs.Led.{led_of};
+ghost use Rattle.px_steps.specs.Led.{at_state, led_of};
 ghost use Rattle.px_steps.specs.Additions.{ones};
 
 use crate::control_acts::begin_alone;
+use crate::led::{self, Led};
 use crate::path_limits::{COMMAND, assuming};
 use crate::words::operand_of;
 use px_base::{Kind, Site};
-use px_callgraph::{State, StepOutcome, Way};
+use px_callgraph::{State, Way};
 use px_core::Operand;
 use px_entry::Exit;
-use px_match::{Growth, cut, keep_short, limit_passed, word_of};
+use px_match::{Growth, keep_short, limit_passed, word_of};
 use px_terms::{Conj, Content, NoMemory, Poly, quotient};
 use px_ways::{add_conjunct, begin, lacks_quotient, set_slot, take_quotient, unless_there};
 use std::alloc::Global;
@@ -25,31 +26,31 @@ use std::alloc::Global;
 /// A slot gets a quotient, or what is divided by is 0.
 pub(crate) fn divide(
     alloc: Global,
-    state: State,
+    state: &mut State,
     to: u32,
     a: Operand,
     b: Operand,
     site: Site,
     way: Way,
-) -> Result<StepOutcome<State>, NoMemory>
-    ensures { IfOk result (λ r. r ≡ led_of state (commands.divide_done to site (operand_content (begun state) a) (operand_content (begun state) b) way (begun state))) }
+) -> Result<Led, NoMemory>
+    ensures { IfOk result (λ r. at_state r state.new ≡ led_of state.old (commands.divide_done to site (operand_content (begun state.old) a) (operand_content (begun state.old) b) way (begun state.old))) }
 {
-    let a = operand_of(alloc, &state, a)?;
-    let b = operand_of(alloc, &state, b)?;
+    let a = operand_of(alloc, state, a)?;
+    let b = operand_of(alloc, state, b)?;
     divide_contents(alloc, state, to, &a, &b, site, way)
 }
 
 // The same of contents.
 fn divide_contents(
     alloc: Global,
-    state: State,
+    state: &mut State,
     to: u32,
     a: &Content,
     b: &Content,
     site: Site,
     way: Way,
-) -> Result<StepOutcome<State>, NoMemory>
-    ensures { IfOk result (λ r. r ≡ led_of state (commands.divide_done to site a.now b.now way (begun state))) }
+) -> Result<Led, NoMemory>
+    ensures { IfOk result (λ r. at_state r state.new ≡ led_of state.old (commands.divide_done to site a.now b.now way (begun state.old))) }
 {
     match (a, b) {
         (Content::Word(p), Content::Word(q)) => { divide_words(alloc, state, to, p, q, site, way) }
@@ -60,14 +61,14 @@ fn divide_contents(
 // The same of two words.
 fn divide_words(
     alloc: Global,
-    state: State,
+    state: &mut State,
     to: u32,
     p: &Poly,
     q: &Poly,
     site: Site,
     way: Way,
-) -> Result<StepOutcome<State>, NoMemory>
-    ensures { IfOk result (λ r. r ≡ led_of state (commands.words_divided to site way (begun state) p.now q.now)) }
+) -> Result<Led, NoMemory>
+    ensures { IfOk result (λ r. at_state r state.new ≡ led_of state.old (commands.words_divided to site way (begun state.old) p.now q.now)) }
 {
     match way {
         Way::ByZero => by_zero(alloc, state, q, site),
@@ -90,48 +91,32 @@ fn unless_other(state: &State, q: &Poly) -> Result<Option<Conj>, NoMemory>
 }
 
 // What is divided by is 0.
-fn by_zero(
-    alloc: Global,
-    state: State,
-    q: &Poly,
-    site: Site,
-) -> Result<StepOutcome<State>, NoMemory>
-    ensures { IfOk result (λ r. r ≡ led_of state (record (fails DivisionByZero site (assumed (conjunct.Equal q.now) (begun state))) { terms = q.now ∷ [] })) }
+fn by_zero(alloc: Global, state: &mut State, q: &Poly, site: Site) -> Result<Led, NoMemory>
+    ensures { IfOk result (λ r. at_state r state.new ≡ led_of state.old (record (fails DivisionByZero site (assumed (conjunct.Equal q.now) (begun state.old))) { terms = q.now ∷ [] })) }
 {
     keep_short(q);
     fail(alloc, state, q, site)
 }
 
 // The same, where no polynomial is too long.
-fn fail(
-    alloc: Global,
-    mut state: State,
-    q: &Poly,
-    site: Site,
-) -> Result<StepOutcome<State>, NoMemory>
-    ensures { IfOk result (λ r. r ≡ led_of state (fails DivisionByZero site (assumed (conjunct.Equal q.now) (begun state)))) }
+fn fail(alloc: Global, state: &mut State, q: &Poly, site: Site) -> Result<Led, NoMemory>
+    ensures { IfOk result (λ r. at_state r state.new ≡ led_of state.old (fails DivisionByZero site (assumed (conjunct.Equal q.now) (begun state.old)))) }
 {
-    let added = unless_zero(&state, q)?;
+    let added = unless_zero(state, q)?;
     let growth = assuming(0, &added);
-    match limit_passed(&state, &growth) {
-        Some(kind) => cut(alloc, state, kind),
+    match limit_passed(state, &growth) {
+        Some(kind) => led::cut(alloc, state, kind),
         None => {
-            begin(&mut state);
-            add_conjunct(&mut state, added)?;
-            Ok(StepOutcome::Ends(state, Exit::Error(Kind::DivisionByZero, site), None))
+            begin(state);
+            add_conjunct(state, added)?;
+            Ok(Led::Ends(Exit::Error(Kind::DivisionByZero, site), None))
         }
     }
 }
 
 // What is divided by isn't 0.
-fn by_other(
-    alloc: Global,
-    state: State,
-    to: u32,
-    p: &Poly,
-    q: &Poly,
-) -> Result<StepOutcome<State>, NoMemory>
-    ensures { IfOk result (λ r. (site : Site) → r ≡ led_of state (commands.words_divided to site way.Divided (begun state) p.now q.now)) }
+fn by_other(alloc: Global, state: &mut State, to: u32, p: &Poly, q: &Poly) -> Result<Led, NoMemory>
+    ensures { IfOk result (λ r. (site : Site) → at_state r state.new ≡ led_of state.old (commands.words_divided to site way.Divided (begun state.old) p.now q.now)) }
 {
     keep_short(p);
     keep_short(q);
@@ -164,22 +149,22 @@ fn word_quotient(alloc: Global, m: u32, n: u32) -> Option<Content>
 // The slot gets a quotient that is known.
 fn give_quotient(
     alloc: Global,
-    mut state: State,
+    state: &mut State,
     to: u32,
     q: &Poly,
     content: Content,
-) -> Result<StepOutcome<State>, NoMemory>
-    ensures { IfOk result (λ r. r ≡ led_of state (on (states.set_slot to content (assumed (conjunct.Unequal q.now) (begun state))))) }
+) -> Result<Led, NoMemory>
+    ensures { IfOk result (λ r. at_state r state.new ≡ led_of state.old (on (states.set_slot to content (assumed (conjunct.Unequal q.now) (begun state.old))))) }
 {
-    let added = unless_other(&state, q)?;
+    let added = unless_other(state, q)?;
     let growth = assuming(0, &added);
-    match limit_passed(&state, &growth) {
-        Some(passed) => cut(alloc, state, passed),
+    match limit_passed(state, &growth) {
+        Some(passed) => led::cut(alloc, state, passed),
         None => {
-            begin(&mut state);
-            add_conjunct(&mut state, added)?;
-            set_slot(&mut state, to, content);
-            Ok(StepOutcome::Next(state))
+            begin(state);
+            add_conjunct(state, added)?;
+            set_slot(state, to, content);
+            Ok(Led::Goes)
         }
     }
 }
@@ -187,27 +172,27 @@ fn give_quotient(
 // The slot gets a new variable, which is the quotient.
 fn make_quotient(
     alloc: Global,
-    mut state: State,
+    state: &mut State,
     to: u32,
     p: &Poly,
     q: &Poly,
-) -> Result<StepOutcome<State>, NoMemory>
-    ensures { IfOk result (λ r. r ≡ led_of state (on (commands.quotient_by to p.now q.now None (assumed (conjunct.Unequal q.now) (begun state))))) }
+) -> Result<Led, NoMemory>
+    ensures { IfOk result (λ r. at_state r state.new ≡ led_of state.old (on (commands.quotient_by to p.now q.now None (assumed (conjunct.Unequal q.now) (begun state.old))))) }
 {
     keep_short(p);
     keep_short(q);
-    let other = unless_other(&state, q)?;
-    let lacking = lacks_quotient(&state, p, q);
+    let other = unless_other(state, q)?;
+    let lacking = lacks_quotient(state, p, q);
     let growth = Growth {
         conjuncts: count_both(&other, lacking),
         variables: 1,
         ..COMMAND
     };
-    match limit_passed(&state, &growth) {
-        Some(passed) => cut(alloc, state, passed),
+    match limit_passed(state, &growth) {
+        Some(passed) => led::cut(alloc, state, passed),
         None => {
-            take_quotient(alloc, &mut state, to, p, q, other, lacking)?;
-            Ok(StepOutcome::Next(state))
+            take_quotient(alloc, state, to, p, q, other, lacking)?;
+            Ok(Led::Goes)
         }
     }
 }

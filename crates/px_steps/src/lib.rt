@@ -1,7 +1,8 @@
 //! One step of a path: where a way of a command leads, and copies of states. `command_act` is exactly the definition,
 //! limits included, and a drop has the state before the act.
 //!
-//! An act is tested against the limits of a path before it changes anything, so a state is taken by value.
+//! An act changes the state in its place. It is tested against the limits of a path before it changes anything, so that
+//! a drop leaves the state as it was.
 #![tactic(auto)]
 
 mod access_effects;
@@ -12,6 +13,7 @@ mod control_acts;
 mod copies;
 mod divide_acts;
 mod input_acts;
+mod led;
 mod meetings;
 mod path_limits;
 mod reads;
@@ -19,6 +21,7 @@ mod return_acts;
 mod test_acts;
 mod words;
 
-pub use commands::command_act;
-pub use control_acts::iteration_act;
+pub use commands::{command_act, command_act_in};
+pub use control_acts::{iteration_act, iteration_act_in};
 pub use copies::copy_state;
+pub use led::Led;

@@ -2,15 +2,16 @@ ghost use Rattle.std.specs.Prelude.{◌≡◌, Some, [], IfOk};
 ghost use Rattle.px_entry.specs.declared.entries.Exit.TheVariants as exit;
 ghost use Rattle.px_callgraph.specs.States.{begun, ends};
 ghost use Rattle.px_callgraph.specs.Commands as commands;
-ghost use Rattle.px_steps.specs.Led.{led_of};
+ghost use Rattle.px_steps.specs.Led.{at_state, led_of};
 
 use crate::control_acts::begin_alone;
+use crate::led::{self, Led};
 use crate::path_limits::COMMAND;
 use crate::words::operand_of;
-use px_callgraph::{State, StepOutcome};
+use px_callgraph::State;
 use px_core::Operand;
 use px_entry::Exit;
-use px_match::{cut, limit_passed};
+use px_match::limit_passed;
 use px_terms::{Content, NoMemory, ValueType};
 use px_ways::{begin, operand_fits};
 use std::alloc::Global;
@@ -18,13 +19,13 @@ use std::alloc::Global;
 /// A procedure with such a result returns.
 pub(crate) fn return_from(
     alloc: Global,
-    state: State,
+    state: &mut State,
     value: Option<ValueType>,
     from: Option<Operand>,
-) -> Result<StepOutcome<State>, NoMemory>
-    ensures { IfOk result (λ r. r ≡ led_of state (commands.return_done (commands.returned (begun state) value from) (begun state))) }
+) -> Result<Led, NoMemory>
+    ensures { IfOk result (λ r. at_state r state.new ≡ led_of state.old (commands.return_done (commands.returned (begun state.old) value from) (begun state.old))) }
 {
-    match returned(alloc, &state, value, from)? {
+    match returned(alloc, state, value, from)? {
         Some(content) => end(alloc, state, content),
         None => begin_alone(alloc, state),
     }
@@ -64,18 +65,14 @@ fn returned_operand(
 
 // The procedure ends with this result.
 #[tactic(auto, unfolding(crate::specs::Led::led_of))]
-fn end(
-    alloc: Global,
-    mut state: State,
-    content: Option<Content>,
-) -> Result<StepOutcome<State>, NoMemory>
-    ensures { IfOk result (λ r. r ≡ led_of state (record { state = begun state; terms = []; outcome = ends exit.Ok content })) }
+fn end(alloc: Global, state: &mut State, content: Option<Content>) -> Result<Led, NoMemory>
+    ensures { IfOk result (λ r. at_state r state.new ≡ led_of state.old (record { state = begun state.old; terms = []; outcome = ends exit.Ok content })) }
 {
-    match limit_passed(&state, &COMMAND) {
-        Some(kind) => cut(alloc, state, kind),
+    match limit_passed(state, &COMMAND) {
+        Some(kind) => led::cut(alloc, state, kind),
         None => {
-            begin(&mut state);
-            Ok(StepOutcome::Ends(state, Exit::Ok, content))
+            begin(state);
+            Ok(Led::Ends(Exit::Ok, content))
         }
     }
 }

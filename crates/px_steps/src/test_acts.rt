@@ -10,15 +10,16 @@ ghost use Rattle.px_callgraph.specs.States as states;
 ghost use Rattle.px_callgraph.specs.Operations as operations;
 ghost use Rattle.px_callgraph.specs.Commands as commands;
 ghost use Rattle.px_match.specs.Operated.{IsCompared};
-ghost use Rattle.px_steps.specs.Led.{led_of};
+ghost use Rattle.px_steps.specs.Led.{at_state, led_of};
 
 use crate::control_acts::{begin_alone, mark_alone};
+use crate::led::{self, Led};
 use crate::path_limits::{COMMAND, assuming};
 use crate::words::operand_of;
 use px_base::{MarkKind, Site};
-use px_callgraph::{State, StepOutcome, Way};
+use px_callgraph::{State, Way};
 use px_core::{Comparison, Operand};
-use px_match::{Compared, Growth, condition, contrary, cut, limit_of_long, limit_passed};
+use px_match::{Compared, Growth, condition, contrary, limit_of_long, limit_passed};
 use px_terms::{Conj, Content, NoMemory, Poly};
 use px_ways::{add_conjunct, begin, mark, set_slot, unless_there};
 use std::alloc::Global;
@@ -51,11 +52,11 @@ impl Test {
 /// A test is true or false.
 pub(crate) fn take_side(
     alloc: Global,
-    state: State,
+    state: &mut State,
     test: Test,
     way: Way,
-) -> Result<StepOutcome<State>, NoMemory>
-    ensures { IfOk result (λ r. r ≡ led_of state (commands.test_done test.to test.site (operations.condition test.how (operand_content (begun state) test.a) (operand_content (begun state) test.b)) (operations.contrary test.how (operand_content (begun state) test.a) (operand_content (begun state) test.b)) way (begun state))) }
+) -> Result<Led, NoMemory>
+    ensures { IfOk result (λ r. at_state r state.new ≡ led_of state.old (commands.test_done test.to test.site (operations.condition test.how (operand_content (begun state.old) test.a) (operand_content (begun state.old) test.b)) (operations.contrary test.how (operand_content (begun state.old) test.a) (operand_content (begun state.old) test.b)) way (begun state.old))) }
 {
     match way {
         Way::Then => test_then(alloc, state, test),
@@ -64,11 +65,11 @@ pub(crate) fn take_side(
     }
 }
 
-fn test_then(alloc: Global, state: State, test: Test) -> Result<StepOutcome<State>, NoMemory>
-    ensures { IfOk result (λ r. r ≡ led_of state (commands.test_outcome test.to 1 (operations.condition test.how (operand_content (begun state) test.a) (operand_content (begun state) test.b)) (marked kind.Then test.site (begun state)))) }
+fn test_then(alloc: Global, state: &mut State, test: Test) -> Result<Led, NoMemory>
+    ensures { IfOk result (λ r. at_state r state.new ≡ led_of state.old (commands.test_outcome test.to 1 (operations.condition test.how (operand_content (begun state.old) test.a) (operand_content (begun state.old) test.b)) (marked kind.Then test.site (begun state.old)))) }
 {
-    let a = operand_of(alloc, &state, test.a)?;
-    let b = operand_of(alloc, &state, test.b)?;
+    let a = operand_of(alloc, state, test.a)?;
+    let b = operand_of(alloc, state, test.b)?;
     let compared = condition(alloc, test.how, &a, &b)?;
     test_by(
         alloc,
@@ -81,11 +82,11 @@ fn test_then(alloc: Global, state: State, test: Test) -> Result<StepOutcome<Stat
     )
 }
 
-fn test_else(alloc: Global, state: State, test: Test) -> Result<StepOutcome<State>, NoMemory>
-    ensures { IfOk result (λ r. r ≡ led_of state (commands.test_outcome test.to 0 (operations.contrary test.how (operand_content (begun state) test.a) (operand_content (begun state) test.b)) (marked kind.Else test.site (begun state)))) }
+fn test_else(alloc: Global, state: &mut State, test: Test) -> Result<Led, NoMemory>
+    ensures { IfOk result (λ r. at_state r state.new ≡ led_of state.old (commands.test_outcome test.to 0 (operations.contrary test.how (operand_content (begun state.old) test.a) (operand_content (begun state.old) test.b)) (marked kind.Else test.site (begun state.old)))) }
 {
-    let a = operand_of(alloc, &state, test.a)?;
-    let b = operand_of(alloc, &state, test.b)?;
+    let a = operand_of(alloc, state, test.a)?;
+    let b = operand_of(alloc, state, test.b)?;
     let compared = contrary(alloc, test.how, &a, &b)?;
     test_by(
         alloc,
@@ -101,14 +102,14 @@ fn test_else(alloc: Global, state: State, test: Test) -> Result<StepOutcome<Stat
 // The outcome of a test is marked, and where the comparison fits the contents, it is assumed and the slot gets it.
 fn test_by(
     alloc: Global,
-    state: State,
+    state: &mut State,
     to: u32,
     outcome: u8,
     compared: Compared,
     kind: MarkKind,
     site: Site,
-) -> Result<StepOutcome<State>, NoMemory>
-    ensures { IfOk result (λ r. (o : Option conjunct) → IsCompared compared o → r ≡ led_of state (commands.test_outcome to outcome o (marked kind site (begun state)))) }
+) -> Result<Led, NoMemory>
+    ensures { IfOk result (λ r. (o : Option conjunct) → IsCompared compared o → at_state r state.new ≡ led_of state.old (commands.test_outcome to outcome o (marked kind site (begun state.old)))) }
 {
     match compared {
         Compared::Unfit => mark_alone(alloc, state, kind, site),
@@ -122,36 +123,36 @@ fn test_by(
 // The conjunct is assumed, and the slot gets the outcome.
 fn assume_outcome(
     alloc: Global,
-    mut state: State,
+    state: &mut State,
     to: u32,
     outcome: u8,
     conjunct: Conj,
     kind: MarkKind,
     site: Site,
-) -> Result<StepOutcome<State>, NoMemory>
-    ensures { IfOk result (λ r. r ≡ led_of state (on (states.set_slot to (content.Word (number (pos outcome))) (assumed conjunct (marked kind site (begun state)))))) }
+) -> Result<Led, NoMemory>
+    ensures { IfOk result (λ r. at_state r state.new ≡ led_of state.old (on (states.set_slot to (content.Word (number (pos outcome))) (assumed conjunct (marked kind site (begun state.old)))))) }
 {
-    let added = unless_there(&state, conjunct);
+    let added = unless_there(state, conjunct);
     let growth = assuming(1, &added);
-    match limit_passed(&state, &growth) {
-        Some(passed) => cut(alloc, state, passed),
+    match limit_passed(state, &growth) {
+        Some(passed) => led::cut(alloc, state, passed),
         None => {
-            begin(&mut state);
-            mark(&mut state, kind, site)?;
-            add_conjunct(&mut state, added)?;
+            begin(state);
+            mark(state, kind, site)?;
+            add_conjunct(state, added)?;
             set_slot(
-                &mut state,
+                state,
                 to,
                 Content::Word(Poly::word(alloc, i32::from(outcome))?),
             );
-            Ok(StepOutcome::Next(state))
+            Ok(Led::Goes)
         }
     }
 }
 
 // Where the conjunct of a test is too long, some limit is passed, whatever the test's outcome, mark and place.
-fn cut_test(alloc: Global, state: State) -> Result<StepOutcome<State>, NoMemory>
-    ensures { IfOk result (λ r. (to outcome : ℕ) (k : MarkKind) (site : Site) (c : conjunct) → is_long_conjunct c ≡ true → r ≡ led_of state (commands.test_outcome to outcome (Some c) (marked k site (begun state)))) }
+fn cut_test(alloc: Global, state: &mut State) -> Result<Led, NoMemory>
+    ensures { IfOk result (λ r. (to outcome : ℕ) (k : MarkKind) (site : Site) (c : conjunct) → is_long_conjunct c ≡ true → at_state r state.new ≡ led_of state.old (commands.test_outcome to outcome (Some c) (marked k site (begun state.old)))) }
 {
     let growth = Growth {
         marks: 1,
@@ -159,6 +160,6 @@ fn cut_test(alloc: Global, state: State) -> Result<StepOutcome<State>, NoMemory>
         long_term: true,
         ..COMMAND
     };
-    let passed = limit_of_long(&state, &growth);
-    cut(alloc, state, passed)
+    let passed = limit_of_long(state, &growth);
+    led::cut(alloc, state, passed)
 }

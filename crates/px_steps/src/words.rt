@@ -8,14 +8,15 @@ ghost use Rattle.px_callgraph.specs.States as states;
 ghost use Rattle.px_callgraph.specs.Operations as operations;
 ghost use Rattle.px_callgraph.specs.Commands as commands;
 ghost use Rattle.px_match.specs.Operated.{IsOperated};
-ghost use Rattle.px_steps.specs.Led.{led_of};
+ghost use Rattle.px_steps.specs.Led.{at_state, led_of};
 
 use crate::block_acts::give;
 use crate::control_acts::begin_alone;
+use crate::led::{self, Led};
 use crate::path_limits::COMMAND;
-use px_callgraph::{State, StepOutcome};
+use px_callgraph::State;
 use px_core::{Operand, Operator};
-use px_match::{Growth, Operated, cut, limit_of_long, operand_content, operation};
+use px_match::{Growth, Operated, limit_of_long, operand_content, operation};
 use px_terms::{Content, NoMemory};
 use std::alloc::Global;
 
@@ -33,17 +34,17 @@ pub(crate) fn operand_of(
 /// A slot gets what an operator makes.
 pub(crate) fn assign(
     alloc: Global,
-    state: State,
+    state: &mut State,
     to: u32,
     op: Operator,
     a: Operand,
     b: Operand,
-) -> Result<StepOutcome<State>, NoMemory>
-    ensures { IfOk result (λ r. r ≡ led_of state (commands.assign_done to (commands.terms_of (operations.operation op (content_of (begun state) a) (content_of (begun state) b)) (operations.made_terms op)) (operations.operation op (content_of (begun state) a) (content_of (begun state) b)) (begun state))) }
+) -> Result<Led, NoMemory>
+    ensures { IfOk result (λ r. at_state r state.new ≡ led_of state.old (commands.assign_done to (commands.terms_of (operations.operation op (content_of (begun state.old) a) (content_of (begun state.old) b)) (operations.made_terms op)) (operations.operation op (content_of (begun state.old) a) (content_of (begun state.old) b)) (begun state.old))) }
 {
     match op {
         Operator::Copy => {
-            let content = operand_of(alloc, &state, a)?;
+            let content = operand_of(alloc, state, a)?;
             give(alloc, state, to, content)
         }
         _ => operate(alloc, state, to, op, a, b),
@@ -53,27 +54,22 @@ pub(crate) fn assign(
 // The same by way of what the operator makes, for which a copy would be copied twice.
 fn operate(
     alloc: Global,
-    state: State,
+    state: &mut State,
     to: u32,
     op: Operator,
     a: Operand,
     b: Operand,
-) -> Result<StepOutcome<State>, NoMemory>
-    ensures { IfOk result (λ r. r ≡ led_of state (commands.assign_done to (commands.terms_of (operations.operation op (content_of (begun state) a) (content_of (begun state) b)) (operations.made_terms op)) (operations.operation op (content_of (begun state) a) (content_of (begun state) b)) (begun state))) }
+) -> Result<Led, NoMemory>
+    ensures { IfOk result (λ r. at_state r state.new ≡ led_of state.old (commands.assign_done to (commands.terms_of (operations.operation op (content_of (begun state.old) a) (content_of (begun state.old) b)) (operations.made_terms op)) (operations.operation op (content_of (begun state.old) a) (content_of (begun state.old) b)) (begun state.old))) }
 {
-    let a = operand_of(alloc, &state, a)?;
-    let b = operand_of(alloc, &state, b)?;
+    let a = operand_of(alloc, state, a)?;
+    let b = operand_of(alloc, state, b)?;
     let operated = operation(alloc, op, &a, &b)?;
     assign_by(alloc, state, to, operated)
 }
 
-fn assign_by(
-    alloc: Global,
-    state: State,
-    to: u32,
-    operated: Operated,
-) -> Result<StepOutcome<State>, NoMemory>
-    ensures { IfOk result (λ r. (o : Option content) (terms : content → List Polynomial) → IsOperated operated o terms → r ≡ led_of state (commands.assign_done to (commands.terms_of o terms) o (begun state))) }
+fn assign_by(alloc: Global, state: &mut State, to: u32, operated: Operated) -> Result<Led, NoMemory>
+    ensures { IfOk result (λ r. (o : Option content) (terms : content → List Polynomial) → IsOperated operated o terms → at_state r state.new ≡ led_of state.old (commands.assign_done to (commands.terms_of o terms) o (begun state.old))) }
 {
     match operated {
         Operated::Unfit => begin_alone(alloc, state),
@@ -83,13 +79,13 @@ fn assign_by(
 }
 
 // Where the polynomial is too long, some limit is passed, whatever the slot.
-fn cut_assign(alloc: Global, state: State) -> Result<StepOutcome<State>, NoMemory>
-    ensures { IfOk result (λ r. (to : ℕ) (c : content) (terms : List Polynomial) → list_any is_long terms ≡ true → r ≡ led_of state (record (on (states.set_slot to c (begun state))) { terms = terms })) }
+fn cut_assign(alloc: Global, state: &mut State) -> Result<Led, NoMemory>
+    ensures { IfOk result (λ r. (to : ℕ) (c : content) (terms : List Polynomial) → list_any is_long terms ≡ true → at_state r state.new ≡ led_of state.old (record (on (states.set_slot to c (begun state.old))) { terms = terms })) }
 {
     let growth = Growth {
         long_term: true,
         ..COMMAND
     };
-    let passed = limit_of_long(&state, &growth);
-    cut(alloc, state, passed)
+    let passed = limit_of_long(state, &growth);
+    led::cut(alloc, state, passed)
 }

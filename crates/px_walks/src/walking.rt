@@ -2,30 +2,29 @@ ghost use Rattle.std.specs.Prelude.{◌≡◌, [], ◌∷◌, ◌<◌, ◌^◌, 
 ghost use Rattle.px_core.specs.CommandTree.{command_tree};
 ghost use Rattle.px_core.specs.Control.{Item, Act, AfterHead, acts};
 ghost use Rattle.px_callgraph.specs.JobTree.{job_tree};
-ghost use Rattle.px_callgraph.specs.declared.outcomes.StepOutcome.TheVariants as outcome;
 ghost use Rattle.px_callgraph.specs.Alternatives as spec;
 ghost use Rattle.px_callgraph.specs.Alternatives.{at, fallen, item_act};
-ghost use Rattle.px_callgraph.specs.Outcomes.{map_next};
 ghost use Rattle.px_callgraph.specs.Derivations as derivations;
 ghost use Rattle.px_callgraph.specs.declared.states.Way.TheVariants as variant;
 ghost use Rattle.px_ways.specs.Listed.{lists};
 ghost use Rattle.px_callgraph.specs.declared.states.State.{State as StateOf};
 ghost use Rattle.px_callgraph.specs.Alternatives.{after_command};
-ghost use Rattle.px_calls.specs.Calls.{call_of, called, with_call, IsFewCalled};
-ghost use Rattle.px_steps.specs.Led.{IsFew};
+ghost use Rattle.px_calls.specs.Calls.{call_of, called, with_call};
+ghost use Rattle.px_calls.specs.Progress.{progress_at};
 ghost use Rattle.px_walks.specs.Items.{turns_of, part_of, end_of, items_of};
 ghost use Rattle.px_walks.specs.Nexts.{IsNext};
-ghost use Rattle.px_walks.specs.Walks.{walk_of, leads_of, call_in};
+ghost use Rattle.px_walks.specs.Few.{IfGoes, IsFewLeft};
+ghost use Rattle.px_walks.specs.Walks.{walk_of, leads_of, at_walk, call_in};
 
 use crate::after::{go_after, is_in_place};
 use crate::control::{Upcoming, next, put_part, take_next};
 use crate::{OpenLoop, Part, Piece, Walk};
 use px_callgraph::{Job, State, StepOutcome, Way};
-use px_calls::{Call, CallProgress, call_act, call_ways, enter, is_call_way, stage_way};
+use px_calls::{Call, CallLed, call_act_in, call_ways, enter, is_call_way, stage_way};
 use px_core::Command;
 use px_entry::Exit;
-use px_steps::{command_act, copy_state, iteration_act};
-use px_terms::{Content, NoMemory};
+use px_steps::{Led, command_act_in, copy_state, iteration_act_in};
+use px_terms::{Content, Items, NoMemory};
 use px_ways::command_ways;
 use std::alloc::Global;
 
@@ -168,24 +167,25 @@ pub fn is_listed(alloc: Global, job: &Job, walk: &Walk, way: Way) -> Result<bool
     }
 }
 
-// Goes on with this call, if one was entered, and then with what is still to be done, where the path goes on.
-fn go_on<'a>(
-    led: StepOutcome<State>,
+// A walk with what an act leads to, where it goes on.
+fn led_on<'a>(
+    led: Option<Led>,
+    state: State,
     call: Option<Box<Call<'a>>>,
     control: Vec<Piece<'a>>,
 ) -> StepOutcome<Walk<'a>>
-    requires { IsFew led }
-    ensures { leads_of result ≡ map_next (with_call (call_in call.entry) (items_of control.entry.items)) led }
+    requires { IfGoes led (length state.atoms < 2 ^ 32) }
+    ensures { leads_of result ≡ at_walk led (with_call (call_in call.entry) (items_of control.entry.items) state) }
 {
     match led {
-        StepOutcome::Next(state) => StepOutcome::Next(Walk {
+        Some(Led::Goes) => StepOutcome::Next(Walk {
             state,
             call,
             control,
         }),
-        StepOutcome::Ends(state, exit, result) => StepOutcome::Ends(state, exit, result),
-        StepOutcome::Cut(state, gap) => StepOutcome::Cut(state, gap),
-        StepOutcome::Past(state) => StepOutcome::Past(state),
+        Some(Led::Ends(exit, result)) => StepOutcome::Ends(state, exit, result),
+        Some(Led::Cut(gap)) => StepOutcome::Cut(state, gap),
+        None => StepOutcome::Past(state),
     }
 }
 
@@ -200,64 +200,69 @@ pub fn act_command<'a>(
 ) -> Result<StepOutcome<Walk<'a>>, NoMemory>
     ensures { IfOk result (λ to. leads_of to ≡ item_act (job_tree job.now) state (Act (command_tree command.entry.now) ∷ items_of control.entry.items) way) }
 {
+    let mut state = state;
     let mut control = control;
-    if go_after(&state, command, &mut control)? {
-        let call = entered(alloc, &state, command)?;
-        let led = command_act(alloc, job, state, command, way)?;
-        Ok(go_on(led, call, control))
+    let mut call = None;
+    let led = do_command(
+        alloc,
+        job,
+        &mut state,
+        &mut call,
+        &mut control,
+        command,
+        way,
+    )?;
+    Ok(led_on(led, state, call, control))
+}
+
+// The same where the parts of a walk are changed in their place.
+fn do_command<'a>(
+    alloc: Global,
+    job: &Job,
+    state: &mut State,
+    call: &mut Option<Box<Call<'a>>>,
+    control: &mut Vec<Piece<'a>>,
+    command: &'a Command,
+    way: Way,
+) -> Result<Option<Led>, NoMemory>
+    ensures leads { IfOk result (λ led. at_walk led (with_call (call_in call.new) (items_of control.new.items) state.new) ≡ item_act (job_tree job.now) state.old (Act (command_tree command.entry.now) ∷ items_of control.old.items) way) }
+    ensures few { IfOk result (λ led. IsFewLeft state.old led state.new) }
+{
+    if go_after(state, command, control)? {
+        let begun = entered(alloc, state, command)?;
+        *call = begun;
+        let led = command_act_in(alloc, job, state, command, way)?;
+        Ok(Some(led))
     } else {
-        Ok(StepOutcome::Past(state))
+        Ok(None)
     }
 }
 
-// The body of a loop is begun once more, unless the bound forbids it.
-#[tactic(auto, unfolding(px_steps::specs::Led::led_of))]
+// The body of a loop is begun once more, unless the bound forbids it. Where the path isn't followed, it doesn't matter
+// what would be done next.
 fn begin_body<'a>(
     alloc: Global,
     job: &Job,
-    state: State,
+    state: &mut State,
+    control: &mut Vec<Piece<'a>>,
     turns: OpenLoop<'a>,
-    control: Vec<Piece<'a>>,
-) -> Result<StepOutcome<Walk<'a>>, NoMemory>
-    ensures { IfOk result (λ to. leads_of to ≡ item_act (job_tree job.now) state (AfterHead (turns_of turns.entry) ∷ items_of control.entry.items) Way.On) }
+) -> Result<Option<Led>, NoMemory>
+    ensures leads { IfOk result (λ led. at_walk led (at (items_of control.new.items) state.new) ≡ item_act (job_tree job.now) state.old (AfterHead (turns_of turns.entry) ∷ items_of control.old.items) Way.On) }
+    ensures few { IfOk result (λ led. IsFewLeft state.old led state.new) }
 {
-    let mut control = control;
-    match iteration_act(alloc, job.limits.unroll(), turns.site, turns.made, state)? {
-        StepOutcome::Next(state) => {
-            let again = OpenLoop {
-                made: turns.made + 1,
-                ..turns
-            };
-            put_part(&mut control, Part::Body, again)?;
-            Ok(StepOutcome::Next(Walk {
-                state,
-                call: None,
-                control,
-            }))
-        }
-        StepOutcome::Ends(state, exit, result) => Ok(StepOutcome::Ends(state, exit, result)),
-        StepOutcome::Cut(state, gap) => Ok(StepOutcome::Cut(state, gap)),
-        StepOutcome::Past(state) => Ok(StepOutcome::Past(state)),
+    let unroll = job.limits.unroll();
+    let made = turns.made;
+    if made < unroll {
+        let again = OpenLoop {
+            made: made + 1,
+            ..turns
+        };
+        put_part(control, Part::Body, again)?;
+        let led = iteration_act_in(alloc, turns.site, made + 1, state)?;
+        Ok(Some(led))
+    } else {
+        Ok(None)
     }
-}
-
-// The next part of a loop is begun.
-fn turn<'a>(
-    state: State,
-    part: Part,
-    turns: OpenLoop<'a>,
-    control: Vec<Piece<'a>>,
-) -> Result<StepOutcome<Walk<'a>>, NoMemory>
-    requires { length state.atoms < 2 ^ 32 }
-    ensures { IfOk result (λ to. leads_of to ≡ outcome.Next (at (acts (part_of part (turns_of turns.entry)) (end_of part (turns_of turns.entry) ∷ items_of control.entry.items)) state)) }
-{
-    let mut control = control;
-    put_part(&mut control, part, turns)?;
-    Ok(StepOutcome::Next(Walk {
-        state,
-        call: None,
-        control,
-    }))
 }
 
 // What the result of a body is that falls off its end.
@@ -270,53 +275,118 @@ fn fallen(job: &Job) -> Option<Content>
     }
 }
 
-// Where a way of what is to be done next leads.
-fn act_control<'a>(
+// Where a way of what is to be done next leads. No call is going on after it but one that the command begins.
+fn do_item<'a>(
     alloc: Global,
     job: &Job,
-    state: State,
-    control: Vec<Piece<'a>>,
+    state: &mut State,
+    call: &mut Option<Box<Call<'a>>>,
+    control: &mut Vec<Piece<'a>>,
     way: Way,
-) -> Result<StepOutcome<Walk<'a>>, NoMemory>
-    requires { length state.atoms < 2 ^ 32 }
-    ensures { IfOk result (λ to. leads_of to ≡ item_act (job_tree job.now) state (items_of control.entry.items) way) }
+) -> Result<Option<Led>, NoMemory>
+    requires { length state.old.atoms < 2 ^ 32 }
+    ensures leads { IfOk result (λ led. at_walk led (with_call (call_in call.new) (items_of control.new.items) state.new) ≡ item_act (job_tree job.now) state.old (items_of control.old.items) way) }
+    ensures few { IfOk result (λ led. IsFewLeft state.old led state.new) }
 {
-    let mut control = control;
-    match take_next(&mut control)? {
-        Upcoming::Nothing => Ok(StepOutcome::Ends(state, Exit::Ok, fallen(job))),
-        Upcoming::Command(command) => act_command(alloc, job, state, command, control, way),
-        Upcoming::End(Part::Head, turns) => begin_body(alloc, job, state, turns, control),
-        Upcoming::End(Part::Body, turns) => turn(state, Part::Step, turns, control),
-        Upcoming::End(Part::Step, turns) => turn(state, Part::Head, turns, control),
+    *call = None;
+    match take_next(control)? {
+        Upcoming::Nothing => Ok(Some(Led::Ends(Exit::Ok, fallen(job)))),
+        Upcoming::Command(command) => do_command(alloc, job, state, call, control, command, way),
+        Upcoming::End(Part::Head, turns) => begin_body(alloc, job, state, control, turns),
+        Upcoming::End(Part::Body, turns) => {
+            put_part(control, Part::Step, turns)?;
+            Ok(Some(Led::Goes))
+        }
+        Upcoming::End(Part::Step, turns) => {
+            put_part(control, Part::Head, turns)?;
+            Ok(Some(Led::Goes))
+        }
     }
 }
 
 // Goes on with the call, or after it with what is still to be done.
 fn go_on_calling<'a>(
     alloc: Global,
-    to: StepOutcome<CallProgress<'a>>,
-    control: Vec<Piece<'a>>,
-) -> Result<StepOutcome<Walk<'a>>, NoMemory>
-    requires { IsFewCalled to }
-    ensures { IfOk result (λ on. leads_of on ≡ called (items_of control.entry.items) to.entry) }
+    led: CallLed<'a>,
+    call: &mut Option<Box<Call<'a>>>,
+) -> Result<Option<Led>, NoMemory>
+    ensures { IfOk result (λ to. (k : List Item) (t : StateOf) → at_walk to (with_call (call_in call.new) k t) ≡ called k (progress_at led.entry t)) }
 {
-    match to {
-        StepOutcome::Next(CallProgress { state, call }) => {
-            let call = boxed(alloc, call)?;
-            Ok(StepOutcome::Next(Walk {
-                state,
-                call,
-                control,
-            }))
+    match led {
+        CallLed::Goes(on) => {
+            *call = boxed(alloc, on)?;
+            Ok(Some(Led::Goes))
         }
-        StepOutcome::Ends(state, exit, result) => Ok(StepOutcome::Ends(state, exit, result)),
-        StepOutcome::Cut(state, gap) => Ok(StepOutcome::Cut(state, gap)),
-        StepOutcome::Past(state) => Ok(StepOutcome::Past(state)),
+        CallLed::Ends(exit, result) => Ok(Some(Led::Ends(exit, result))),
+        CallLed::Cut(gap) => Ok(Some(Led::Cut(gap))),
+        CallLed::Past => Ok(None),
+    }
+}
+
+// Where a way of a call leads that is going on.
+fn do_call<'a>(
+    alloc: Global,
+    job: &'a Job,
+    state: &mut State,
+    call: &mut Option<Box<Call<'a>>>,
+    going: Call<'a>,
+    way: Way,
+) -> Result<Option<Led>, NoMemory>
+    requires { length state.old.atoms < 2 ^ 32 }
+    ensures leads { IfOk result (λ led. (k : List Item) → at_walk led (with_call (call_in call.new) k state.new) ≡ spec.stage_act (job_tree job.now) state.old (call_of going.entry).0 k (call_of going.entry).1 way) }
+    ensures few { IfOk result (λ led. IsFewLeft state.old led state.new) }
+{
+    let led = call_act_in(alloc, job, state, going, way)?;
+    go_on_calling(alloc, led, call)
+}
+
+// Where a way leads, with the parts of a walk.
+fn do_way<'a>(
+    alloc: Global,
+    job: &'a Job,
+    state: &mut State,
+    call: &mut Option<Box<Call<'a>>>,
+    control: &mut Vec<Piece<'a>>,
+    way: Way,
+) -> Result<Option<Led>, NoMemory>
+    requires { length state.old.atoms < 2 ^ 32 }
+    ensures leads { IfOk result (λ led. at_walk led (with_call (call_in call.new) (items_of control.new.items) state.new) ≡ spec.act (job_tree job.now) (with_call (call_in call.old) (items_of control.old.items) state.old) way) }
+    ensures few { IfOk result (λ led. IsFewLeft state.old led state.new) }
+{
+    match call.take() {
+        None => do_item(alloc, job, state, call, control, way),
+        Some(going) => do_call(alloc, job, state, call, Box::into_inner(going), way),
+    }
+}
+
+/// Where a way leads, by name, with the walk changed in its place; none past the bound of a loop, or where a jump has no
+/// loop. Where the path doesn't go on, only its state counts. After `NoMemory` it is some walk.
+pub fn act_in<'a>(
+    alloc: Global,
+    job: &'a Job,
+    walk: &mut Walk<'a>,
+    way: Way,
+) -> Result<Option<Led>, NoMemory>
+    ensures { IfOk result (λ led. at_walk led (walk_of walk.new) ≡ spec.act (job_tree job.now) (walk_of walk.old) way) }
+{
+    match do_way(
+        alloc,
+        job,
+        &mut walk.state,
+        &mut walk.call,
+        &mut walk.control,
+        way,
+    ) {
+        Ok(led) => Ok(led),
+        Err(error) => {
+            // Few blocks are met in every walk.
+            walk.state.atoms = Items::new(alloc);
+            Err(error)
+        }
     }
 }
 
 /// Where a way leads, by name.
-#[tactic(auto, unfolding(px_callgraph::specs::Alternatives::act))]
 pub fn act<'a>(
     alloc: Global,
     job: &'a Job,
@@ -325,16 +395,19 @@ pub fn act<'a>(
 ) -> Result<StepOutcome<Walk<'a>>, NoMemory>
     ensures { IfOk result (λ to. leads_of to ≡ spec.act (job_tree job.now) (walk_of walk.entry) way) }
 {
-    let Walk {
-        state,
-        call,
-        control,
-    } = walk;
-    match call {
-        None => act_control(alloc, job, state, control, way),
-        Some(call) => {
-            let to = call_act(alloc, job, state, Box::into_inner(call), way)?;
-            go_on_calling(alloc, to, control)
-        }
+    let mut walk = walk;
+    let led = act_in(alloc, job, &mut walk, way)?;
+    Ok(with_walk(led, walk))
+}
+
+// Where an act leads, beside the walk that it left.
+fn with_walk<'a>(led: Option<Led>, walk: Walk<'a>) -> StepOutcome<Walk<'a>>
+    ensures { leads_of result ≡ at_walk led (walk_of walk.entry) }
+{
+    match led {
+        Some(Led::Goes) => StepOutcome::Next(walk),
+        Some(Led::Ends(exit, result)) => StepOutcome::Ends(walk.state, exit, result),
+        Some(Led::Cut(gap)) => StepOutcome::Cut(walk.state, gap),
+        None => StepOutcome::Past(walk.state),
     }
 }

@@ -1,5 +1,5 @@
 -- Whether the slots and block types that a body names are there.
-use Rattle.std.specs.Prelude.{ℕ, ◌+◌, List, Option, Some, None, Bool, true, ◌&&◌, nat_lt, nat_le, length}
+use Rattle.std.specs.Prelude.{ℕ, ◌+◌, Option, Some, None, Bool, true, ◌&&◌, nat_lt, nat_le, length}
 use Rattle.std.specs.List.{list_all}
 use Rattle.px_base.specs.Bounds.{most_parameters, most_commands}
 use Rattle.px_terms.specs.declared.types.ValueType.{ValueType}

@@ -1,5 +1,5 @@
 -- Whether what tables name is there.
-use Rattle.std.specs.Prelude.{ℕ, List, Option, Some, None, Bool, true, ◌&&◌, nat_lt, length}
+use Rattle.std.specs.Prelude.{ℕ, Option, Some, None, Bool, true, ◌&&◌, nat_lt, length}
 use Rattle.std.specs.List.{list_all}
 use Rattle.px_base.specs.Bounds.{most_variables}
 use Rattle.px_terms.specs.declared.conjuncts.Content.{Content}

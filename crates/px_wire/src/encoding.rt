@@ -57,8 +57,17 @@ pub fn write<K: Sink>(sink: &mut K, message: &Message) -> Result<(), Failed>
     requires { length (message_bytes message.now.version message.now.says) ≤ most_bytes }
     ensures { IsWritten K.told K.takes K.count sink.old (frame_of (message_bytes message.now.version message.now.says)) result sink.new }
 {
+    write_counted(sink, message, frame_length(message))
+}
+
+/// The same, of a message whose bytes were counted.
+pub fn write_counted<K: Sink>(sink: &mut K, message: &Message, count: u32) -> Result<(), Failed>
+    requires counted { count ≡ length (message_bytes (message_tree message.now)) }
+    requires short { count ≤ most_bytes }
+    ensures { IsWritten K.told K.takes K.count sink.old (frame_of (message_bytes (message_tree message.now))) result sink.new }
+{
     let mut out = new_buffer();
-    frame_length(message).write(&mut out, sink);
+    count.write(&mut out, sink);
     write_message(message, &mut out, sink);
     finish(out, sink)
 }

@@ -20,7 +20,7 @@ mod table_ranges;
 mod term_ranges;
 
 pub use decoding::{ANY_TYPES, decode};
-pub use encoding::{encode, encode_request, length, write};
+pub use encoding::{encode, encode_request, length, write, write_counted};
 pub use laws::{encoded_is_decoded, one_spelling};
 pub use message::{FULL, Message, SHARED, Said};
 pub use message_ranges::{is_in_range, is_request_in_range};

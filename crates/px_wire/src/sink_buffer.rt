@@ -29,13 +29,10 @@ impl<K: Sink> Output for SinkBuffer<K> {
     ghost reaches = { λ from s to. Took K.told K.takes K.count from s.failed (take s.used s.bytes) s.given.items to };
 
     fn put(&mut self, target: &mut K, bytes: &[u8]) {
-        if bytes.len() > 4_096 - self.used {
-            flush(self, target);
-        }
         if bytes.len() <= 4_096 - self.used {
             hold(self, bytes);
         } else {
-            pass(self, target, bytes);
+            put_anew(self, target, bytes);
         }
     }
 }
@@ -81,19 +78,33 @@ fn hold<K: Sink>(buffer: &mut SinkBuffer<K>, bytes: &[u8])
     ensures given { buffer.new.given.items ≡ buffer.old.given.items ++ bytes.now }
     ensures took { (from to : K) → Took K.told K.takes K.count from buffer.old.failed (take buffer.old.used buffer.old.bytes) buffer.old.given.items to → Took K.told K.takes K.count from buffer.new.failed (take buffer.new.used buffer.new.bytes) buffer.new.given.items to }
 {
-    let end = buffer.used + bytes.len();
-    buffer.bytes[buffer.used..end].copy_from_slice(bytes);
-    buffer.used = end;
+    let from = buffer.used;
+    // the number first: nothing is left to do once the bytes are copied
+    buffer.used = from + bytes.len();
     buffer.given.add(bytes);
+    buffer.bytes[from..buffer.used].copy_from_slice(bytes);
 }
 
-// Writes bytes for which there is no room.
-#[tactic(auto, using(crate::proofs::SinkLemmas::took_given))]
-fn pass<K: Sink>(buffer: &mut SinkBuffer<K>, sink: &mut K, bytes: &[u8])
+// Lets go what is held, and then holds these, or writes them where they are more than there ever is room for.
+fn put_anew<K: Sink>(buffer: &mut SinkBuffer<K>, sink: &mut K, bytes: &[u8])
     ensures given { buffer.new.given.items ≡ buffer.old.given.items ++ bytes.now }
     ensures took { (from : K) → Took K.told K.takes K.count from buffer.old.failed (take buffer.old.used buffer.old.bytes) buffer.old.given.items sink.old → Took K.told K.takes K.count from buffer.new.failed (take buffer.new.used buffer.new.bytes) buffer.new.given.items sink.new }
 {
     flush(buffer, sink);
+    if bytes.len() <= 4_096 {
+        hold(buffer, bytes);
+    } else {
+        write_through(buffer, sink, bytes);
+    }
+}
+
+// Writes bytes where none are held.
+#[tactic(auto, using(crate::proofs::SinkLemmas::took_given))]
+fn write_through<K: Sink>(buffer: &mut SinkBuffer<K>, sink: &mut K, bytes: &[u8])
+    requires { buffer.old.used ≡ 0 }
+    ensures given { buffer.new.given.items ≡ buffer.old.given.items ++ bytes.now }
+    ensures took { (from : K) → Took K.told K.takes K.count from buffer.old.failed (take buffer.old.used buffer.old.bytes) buffer.old.given.items sink.old → Took K.told K.takes K.count from buffer.new.failed (take buffer.new.used buffer.new.bytes) buffer.new.given.items sink.new }
+{
     buffer.failed = send(buffer.failed, sink, bytes);
     buffer.given.add(bytes);
 }

@@ -10,7 +10,7 @@ use crate::owed::{NotOwed, owed};
 use px_frames::{Fed, FeedFault, Feeder};
 use px_io::{Failed, Sink};
 use px_terms::Domain;
-use px_wire::{one_spelling, write};
+use px_wire::{one_spelling, write_counted};
 use std::alloc::Global;
 
 /// How far a worker has come in its input. It takes the input piece by piece, and reads nothing itself.
@@ -121,7 +121,7 @@ fn answer_message<K: Sink>(
     ensures kinds { map (λ b. number b) domains.new.items ≡ map (λ b. number b) domains.old.items }
 {
     match owed(alloc, message, domains) {
-        Ok(answer) => match write(sink, &answer) {
+        Ok(answer) => match write_counted(sink, &answer.message, answer.count) {
             Ok(()) => Ok(()),
             Err(Failed) => Err(ServeFault::Write),
         },

@@ -36,16 +36,24 @@ impl From<NoMemory> for NotOwed {
     }
 }
 
+/// A message that is owed, and how many bytes it has.
+#[derive(Drop)]
+pub(crate) struct CountedMessage {
+    pub(crate) message: Message,
+    pub(crate) count: u32,
+}
+
 /// The message that is owed for one. The domains hold nothing, before and after.
 pub(crate) fn owed(
     alloc: Global,
     message: &[u8],
     domains: &mut Vec<Box<dyn Domain>>,
-) -> Result<Message, NotOwed>
+) -> Result<CountedMessage, NotOwed>
     requires message { length message.now ≤ most_bytes }
     requires clear { All (λ b. holds b []) domains.old.items }
-    ensures owed { IfOk result (λ m. IsOwed (map (λ b. number b) domains.old.items) message.now (message_bytes (message_tree m))) }
-    ensures short { IfOk result (λ m. length (message_bytes (message_tree m)) ≤ most_bytes) }
+    ensures owed { IfOk result (λ o. IsOwed (map (λ b. number b) domains.old.items) message.now (message_bytes (message_tree o.message))) }
+    ensures counted { IfOk result (λ o. o.count ≡ length (message_bytes (message_tree o.message))) }
+    ensures short { IfOk result (λ o. o.count ≤ most_bytes) }
     ensures no_request { IsErrOf result why.NoRequest → (j : JobTree) → ¬ Asks message.now j }
     ensures others { IsErrOf result why.OtherKinds → (j : JobTree) × Asks message.now j × (j.kinds ≢ map (λ b. number b) domains.old.items) }
     ensures out { IsErrOf result why.OutOfRange → (j : JobTree) × (a : AnAnalysis) × Asks message.now j × IsAnalysis j a × (¬ IsMessage (reply j.ticket j.kinds a.table a.derivations)) }
@@ -126,14 +134,21 @@ fn number_of(domain: &Box<dyn Domain>) -> u8
     domain.kind()
 }
 
-// A reply to a job with this ticket, or that it is too long for a frame. The ten bytes that say so have room in one.
-fn fitted(reply: Message, ticket: u64) -> Message
-    ensures bytes { message_bytes (message_tree result) ≡ in_frame (message_bytes (message_tree reply)) (message_bytes (large ticket)) }
-    ensures short { length (message_bytes (message_tree result)) ≤ most_bytes }
+// A reply to a job with this ticket, or that it is too long for a frame, which takes ten bytes.
+fn fitted(reply: Message, ticket: u64) -> CountedMessage
+    ensures bytes { message_bytes (message_tree result.message) ≡ in_frame (message_bytes (message_tree reply)) (message_bytes (large ticket)) }
+    ensures counted { result.count ≡ length (message_bytes (message_tree result.message)) }
+    ensures short { result.count ≤ most_bytes }
 {
-    if px_wire::length(&reply) > MOST_BYTES as u64 {
-        Message::Large { ticket }
-    } else {
-        reply
+    let count = px_wire::length(&reply);
+    if count > MOST_BYTES as u64 {
+        return CountedMessage {
+            message: Message::Large { ticket },
+            count: 10,
+        };
+    }
+    CountedMessage {
+        message: reply,
+        count: count as u32,
     }
 }

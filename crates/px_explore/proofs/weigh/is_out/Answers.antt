@@ -1,4 +1,5 @@
-use Rattle.px_explore.proofs.WeighLemmas.{reaches_kept, kept_kept, reached_items, ok_any}
+use Rattle.px_walks.proofs.ResultLemmas.{ok_any}
+use Rattle.px_explore.proofs.WeighLemmas.{reaches_kept, kept_kept, reached_items}
 use Rattle.px_explore.proofs.weigh.is_out.Goals as goal
 
 pub is_refuted-requires-clause-held : goal.is_refuted-requires-clause-held

@@ -11,31 +11,31 @@ use Rattle.px_parts.proofs.unread.take_piece.Goals as goal
 pub returns-in-Short-clause-taken : goal.returns-in-Short-clause-taken
 returns-in-Short-clause-taken c =
     let old = c.args.unread.now in
-    let l = c.look.new.unread in
+    let l = c.look_first.new.unread in
     let count = c.min-count.result in
     let many : count ≡ min (length c.args.piece.now) old.left = omega (arith, c.min-count.ensures) in
-    let after : Unread = record { place = l.place; held = l.held; start = l.start; left = l.left - count; skim = l.skim } in
+    let after : Unread = record { place = l.place; held = l.held; start = l.start; left = l.left - count; skim = l.skim; expected = l.expected } in
     short_end old c.hold.new.unread l after c.args.piece.now c.first.result.now count c.count_held-behind.result c.answer.result many c.first.ensures c.hold.ensures.place c.hold.ensures.left
-    c.in_ok-hold.ensures.held c.look.ensures.same refl refl refl c.count_held-behind.ensures (c.look.ensures.short c.hold.ensures.skim c.in-Short.is) c.answer.ensures
+    c.in_ok-hold.ensures.held c.look_first.ensures.same refl refl refl c.count_held-behind.ensures (c.look_first.ensures.short c.hold.ensures.skim c.in-Short.is) c.answer.ensures
 
 pub go_on-requires : goal.go_on-requires
 go_on-requires c =
     let h = c.hold.new.unread in
-    let l = c.look.new.unread in
+    let l = c.look_first.new.unread in
     let x = c.in-Ok.found.0 in
     let q = c.in-Ok.found.1 in
     let rest = c.in-Ok.found.2.now in
     let many : c.min-count.result ≡ min (length c.args.piece.now) c.args.unread.now.left = omega (arith, c.min-count.ensures) in
     let streams = subst (λ z. Streams l.place z (those x) q rest) c.from_start.ensures c.in-Ok.ensures.holds in
     record {
-      behind = (is_behind l.place q l.start l.held.items rest (those x) (same_within h l c.look.ensures.same c.hold.ensures.within) streams).0;
-      left = omega (arith, many, c.hold.ensures.left, c.look.ensures.same.3);
+      behind = (is_behind l.place q l.start l.held.items rest (those x) (same_within h l c.look_first.ensures.same c.hold.ensures.within) streams).0;
+      left = omega (arith, many, c.hold.ensures.left, c.look_first.ensures.same.3);
     }
 
 pub returns-in-Ok : goal.returns-in-Ok
 returns-in-Ok c =
     let old = c.args.unread.now in
-    let l = c.look.new.unread in
+    let l = c.look_first.new.unread in
     let g = c.go_on.new.unread in
     let after = c.is_wrong-ended.new.unread in
     let count = c.min-count.result in
@@ -45,19 +45,19 @@ returns-in-Ok c =
       within = same_within g after same c.go_on.ensures.within;
       skim = same_skim g after same c.is_wrong-ended.ensures.skim;
       taken = found_end old c.hold.new.unread l g after c.args.piece.now c.first.result.now c.from_start.result.now c.in-Ok.found.2.now count c.in-Ok.found.0 c.in-Ok.found.1 c.answer-in-Ok.result
-          c.is_wrong-ended.result many c.first.ensures c.hold.ensures.within c.hold.ensures.place c.hold.ensures.left c.in_ok-hold.ensures.held c.look.ensures.same c.from_start.ensures
+          c.is_wrong-ended.result many c.first.ensures c.hold.ensures.within c.hold.ensures.place c.hold.ensures.left c.in_ok-hold.ensures.held c.look_first.ensures.same c.from_start.ensures
           c.in-Ok.ensures.holds c.in-Ok.ensures.stuck c.go_on.ensures.place c.go_on.ensures.left c.go_on.ensures.held same c.is_wrong-ended.ensures.ended c.answer-in-Ok.ensures;
     }
 
 pub returns-in-Err : goal.returns-in-Err
 returns-in-Err c =
     let old = c.args.unread.now in
-    let l = c.look.new.unread in
+    let l = c.look_first.new.unread in
     let k = c.take_back.new.unread in
     let count = c.min-count.result in
     let many : count ≡ min (length c.args.piece.now) old.left = omega (arith, c.min-count.ensures) in
     let back = given_back old c.hold.new.unread l k c.first.result.now count (first_many count old.left c.args.piece.now c.first.result.now many c.first.ensures) c.hold.ensures.within c.hold.ensures.place
-    c.hold.ensures.left c.in_ok-hold.ensures.held c.look.ensures.same c.take_back.ensures.held c.take_back.ensures.start c.take_back.ensures.place c.take_back.ensures.left in
+    c.hold.ensures.left c.in_ok-hold.ensures.held c.look_first.ensures.same c.take_back.ensures.held c.take_back.ensures.start c.take_back.ensures.place c.take_back.ensures.left in
     record {
       within = back.0;
       skim = skim_not_begun k.place (held_in k) k.skim c.take_back.ensures.begun;

@@ -4,7 +4,8 @@ use Rattle.std.specs.Vec.Iter.{into_iter_items, into_iter_len}
 use Rattle.px_callgraph.specs.JobTree.{job_tree}
 use Rattle.px_pool.specs.Checks.{AreRefusals}
 use Rattle.px_pool.proofs.ReplyLemmas.{of_err}
-use Rattle.px_pool.proofs.CheckLemmas.{left_len, one_more, stops}
+use Rattle.px_check.proofs.EachLemmas.{left_len}
+use Rattle.px_pool.proofs.CheckLemmas.{one_more, stops}
 use Rattle.px_pool.proofs.checks.check_all.Goals as goal
 
 pub returns-in_err-checked-clause-refused : goal.returns-in_err-checked-clause-refused

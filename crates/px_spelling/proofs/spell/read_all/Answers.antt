@@ -1,6 +1,6 @@
-use Rattle.std.proofs.Common.{rules, ◌≡◌, ◌++◌, ◌∷◌, [], length, ◌+◌, Some, sym, ap, subst, ◌∙◌, arith, append_assoc, ◌-◌}
+use Rattle.std.proofs.Common.{◌≡◌, ◌++◌, ◌∷◌, [], length, ◌+◌, Some, sym, ap, subst, ◌∙◌, ◌-◌}
 use Rattle.std.specs.List.{flat_map, AllByRecursion}
-use Rattle.std.proofs.lemmas.List.{length-append, flat_map_more}
+use Rattle.std.proofs.lemmas.List.{length-append}
 use Rattle.std.proofs.lemmas.Result.{err_from_is_err_and}
 use Rattle.px_spelling.specs.Lists.{items_at}
 use Rattle.px_spelling.proofs.Loop.{goes_on, ends, is_done, with_front, front_goes_on}

@@ -4,4 +4,4 @@ use Rattle.px_steps.proofs.DivideLemmas.{zero_led}
 use Rattle.px_steps.proofs.divide_acts.by_zero.Goals as goal
 
 pub returns : goal.returns
-returns c = IfOk-weaker c.fail.result _ _ (λ x e. e ∙ zero_led c.args.state c.args.site c.args.q.now c.keep_short.ensures) c.fail.ensures
+returns c = IfOk-weaker c.fail.result _ _ (λ x e. e ∙ zero_led c.args.state.now c.args.site c.args.q.now c.keep_short.ensures) c.fail.ensures

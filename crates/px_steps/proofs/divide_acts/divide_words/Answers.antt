@@ -9,4 +9,4 @@ pub returns-in-Divided : goal.returns-in-Divided
 returns-in-Divided c =
     let a = c.args in
     IfOk-weaker c.by_other.result _ _
-    (λ r e. e a.site ∙ ap (λ w. led_of a.state (words_divided a.to a.site w (begun a.state) a.p.now a.q.now)) (sym c.in-Divided.is)) c.by_other.ensures
+    (λ r e. e a.site ∙ ap (λ w. led_of a.state.now (words_divided a.to a.site w (begun a.state.now) a.p.now a.q.now)) (sym c.in-Divided.is)) c.by_other.ensures

@@ -12,7 +12,7 @@ use Rattle.px_ways.proofs.Additions.{assumed_by}
 
 pub returns-in-Some : goal.returns-in-Some
 returns-in-Some c =
-    let s = c.args.state in
+    let s = c.args.state.now in
     let q = c.args.q.now in
     let n = length (option_to_list c.in_ok-added.added) in
     let u = assumed (Equal q) (begun s) in
@@ -22,7 +22,7 @@ returns-in-Some c =
 
 pub returns-in_ok-add_conjunct-in-None : goal.returns-in_ok-add_conjunct-in-None
 returns-in_ok-add_conjunct-in-None c =
-    let s = c.args.state in
+    let s = c.args.state.now in
     let q = c.args.q.now in
     let n = length (option_to_list c.in_ok-added.added) in
     let u = assumed (Equal q) (begun s) in

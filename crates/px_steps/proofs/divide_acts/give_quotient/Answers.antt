@@ -11,7 +11,7 @@ use Rattle.px_ways.proofs.Additions.{assumed_by}
 pub returns-in-Some : goal.returns-in-Some
 returns-in-Some c =
     let a = c.args in
-    let s = a.state in
+    let s = a.state.now in
     let n = length (option_to_list c.in_ok-added.added) in
     let u = set_slot a.to a.content (assumed (Unequal a.q.now) (begun s)) in
     let g = assumed_grows s u (Unequal a.q.now) c.in_ok-added.added 0 n [] goes c.in_ok-added.ensures refl (none (length s.trace)) refl refl refl refl refl in
@@ -20,7 +20,7 @@ returns-in-Some c =
 pub returns-in_ok-add_conjunct-in-None : goal.returns-in_ok-add_conjunct-in-None
 returns-in_ok-add_conjunct-in-None c =
     let a = c.args in
-    let s = a.state in
+    let s = a.state.now in
     let n = length (option_to_list c.in_ok-added.added) in
     let u = set_slot a.to a.content (assumed (Unequal a.q.now) (begun s)) in
     let g = assumed_grows s u (Unequal a.q.now) c.in_ok-added.added 0 n [] goes c.in_ok-added.ensures refl (none (length s.trace)) refl refl refl refl refl in

@@ -6,7 +6,7 @@ use Rattle.px_steps.proofs.divide_acts.make_quotient.Goals as goal
 pub returns-in-Some : goal.returns-in-Some
 returns-in-Some c =
     let a = c.args in
-    let s = a.state in
+    let s = a.state.now in
     let o = c.in_ok-other in
     let l = c.lacks_quotient-lacking in
     let g = made_grows s a.to a.p.now a.q.now o.other l.result o.ensures l.ensures c.keep_short.ensures c.keep_short-2.ensures c.count_both.result c.count_both.ensures in
@@ -15,7 +15,7 @@ returns-in-Some c =
 pub returns-in_ok-take_quotient-in-None : goal.returns-in_ok-take_quotient-in-None
 returns-in_ok-take_quotient-in-None c =
     let a = c.args in
-    let s = a.state in
+    let s = a.state.now in
     let o = c.in_ok-other in
     let l = c.lacks_quotient-lacking in
     let g = made_grows s a.to a.p.now a.q.now o.other l.result o.ensures l.ensures c.keep_short.ensures c.keep_short-2.ensures c.count_both.result c.count_both.ensures in

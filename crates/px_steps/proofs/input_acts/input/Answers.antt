@@ -13,7 +13,7 @@ use Rattle.px_steps.proofs.input_acts.input.Goals as goal
 pub returns-in-Some : goal.returns-in-Some
 returns-in-Some c =
     let a = c.args in
-    let s = a.state in
+    let s = a.state.now in
     let x = length s.vars in
     let m = with_variables (info sort.Input Int ∷ []) (marked kind.Input a.site (begun s)) in
     let u = set_slot a.to (Word (variable x)) (assume_all (is_input_byte x) m) in
@@ -24,7 +24,7 @@ returns-in-Some c =
 pub returns-in_ok-take_input-in-None : goal.returns-in_ok-take_input-in-None
 returns-in_ok-take_input-in-None c =
     let a = c.args in
-    let s = a.state in
+    let s = a.state.now in
     let x = length s.vars in
     let m = with_variables (info sort.Input Int ∷ []) (marked kind.Input a.site (begun s)) in
     let u = set_slot a.to (Word (variable x)) (assume_all (is_input_byte x) m) in

@@ -12,7 +12,7 @@ use Rattle.px_ways.proofs.Additions.{assumed_by}
 
 pub returns-in-Some : goal.returns-in-Some
 returns-in-Some c =
-    let s = c.args.state in
+    let s = c.args.state.now in
     let n = length (option_to_list c.unless_there-added.result) in
     let u = assumed (Unwritten c.args.x) (begun s) in
     let exit = Error UninitialisedRead c.args.site in
@@ -21,7 +21,7 @@ returns-in-Some c =
 
 pub returns-in_ok-add_conjunct-in-None : goal.returns-in_ok-add_conjunct-in-None
 returns-in_ok-add_conjunct-in-None c =
-    let s = c.args.state in
+    let s = c.args.state.now in
     let n = length (option_to_list c.unless_there-added.result) in
     let u = assumed (Unwritten c.args.x) (begun s) in
     let exit = Error UninitialisedRead c.args.site in

@@ -11,7 +11,7 @@ use Rattle.px_ways.proofs.Additions.{assumed_by}
 
 pub returns-in-Some : goal.returns-in-Some
 returns-in-Some c =
-    let s = c.args.state in
+    let s = c.args.state.now in
     let n = length (option_to_list c.unless_there-added.result) in
     let u = set_slot c.args.slot (variable_content c.args.info.value c.args.x.0) (assumed (Written c.args.x) (begun s)) in
     let g = assumed_grows s u (Written c.args.x) c.unless_there-added.result 0 n [] goes c.unless_there-added.ensures refl (none (length s.trace)) refl refl refl refl refl in
@@ -19,7 +19,7 @@ returns-in-Some c =
 
 pub returns-in_ok-variable_content-in-None : goal.returns-in_ok-variable_content-in-None
 returns-in_ok-variable_content-in-None c =
-    let s = c.args.state in
+    let s = c.args.state.now in
     let n = length (option_to_list c.unless_there-added.result) in
     let u = set_slot c.args.slot (variable_content c.args.info.value c.args.x.0) (assumed (Written c.args.x) (begun s)) in
     let g = assumed_grows s u (Written c.args.x) c.unless_there-added.result 0 n [] goes c.unless_there-added.ensures refl (none (length s.trace)) refl refl refl refl refl in

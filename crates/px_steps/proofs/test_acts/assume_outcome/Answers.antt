@@ -11,7 +11,7 @@ use Rattle.px_ways.proofs.Additions.{assumed_by}
 pub returns-in-Some : goal.returns-in-Some
 returns-in-Some c =
     let a = c.args in
-    let s = a.state in
+    let s = a.state.now in
     let n = length (option_to_list c.unless_there-added.result) in
     let m = marked a.kind a.site (begun s) in
     let u = set_slot a.to (Word (number (pos a.outcome))) (assumed a.conjunct m) in
@@ -21,7 +21,7 @@ returns-in-Some c =
 pub returns-in_ok-word-in-None : goal.returns-in_ok-word-in-None
 returns-in_ok-word-in-None c =
     let a = c.args in
-    let s = a.state in
+    let s = a.state.now in
     let n = length (option_to_list c.unless_there-added.result) in
     let m = marked a.kind a.site (begun s) in
     let u = set_slot a.to (Word (number (pos a.outcome))) (assumed a.conjunct m) in

@@ -7,7 +7,7 @@ use Rattle.px_steps.proofs.words.cut_assign.Goals as goal
 
 pub returns : goal.returns
 returns c =
-    let s = c.args.state in
+    let s = c.args.state.now in
     IfOk-weaker c.cut.result _ _ (λ x q to d terms l.
     let u = set_slot to d (begun s) in
     q ∙ cut_at s long_alone c.limit_of_long-passed.result u terms c.limit_of_long-passed.ensures (long_grows s u terms refl refl refl refl refl l)) c.cut.ensures

@@ -1,22 +1,25 @@
-use Rattle.std.proofs.Common.{◌≡◌, ◌∷◌, ap, ◌∙◌, subst}
-use Rattle.px_core.specs.Control.{AfterBody, acts, one_turn_more}
-use Rattle.px_callgraph.specs.Commands.{iteration}
-use Rattle.px_callgraph.specs.Alternatives.{at}
-use Rattle.px_steps.specs.Led.{led_of}
-use Rattle.px_walks.specs.Items.{trees, turns_of, items_of}
-use Rattle.px_steps.specs.Led.{IsFew}
-use Rattle.px_steps.proofs.LedLemmas.{few_led}
-use Rattle.px_walks.proofs.LedFacts.{cuts}
+use Rattle.std.proofs.Common.{◌+◌, refl}
+use Rattle.px_base.specs.declared.trace.MarkKind.TheVariants as mark
+use Rattle.px_callgraph.specs.JobTree.{job_tree}
+use Rattle.px_callgraph.specs.States.{on, marked}
+use Rattle.px_callgraph.specs.Commands.{repeat_loop}
+use Rattle.px_walks.specs.Items.{turns_of, items_of}
+use Rattle.px_walks.proofs.LedFacts.{turned, past_bound}
+use Rattle.px_walks.proofs.FewLemmas.{few_command}
 use Rattle.px_walks.proofs.walking.begin_body.Goals as goal
 
-pub invariant_of-result : goal.invariant_of-result
-invariant_of-result c =
-    let is : c.in_ok-state.field-0 ≡ led_of c.args.state (iteration c.unroll.result c.args.turns.site c.args.turns.made c.args.state) = c.in_ok-state.ensures in
-    record { few = subst IsFew c.in-Next.is (few_led c.args.state (iteration c.unroll.result c.args.turns.site c.args.turns.made c.args.state) c.in_ok-state.field-0 is) }
+pub returns-in_ok-led-clause-leads : goal.returns-in_ok-led-clause-leads
+returns-in_ok-led-clause-leads c =
+    let a = c.args in
+    turned (job_tree a.job.now) a.state.now c.iteration_act_in.new.state (turns_of a.turns) (items_of a.control.now.items) (items_of c.put_part.new.control.items) c.unroll-unroll.result (a.turns.made + 1)
+    c.in_ok-led.led c.unroll-unroll.ensures c.if-made-unroll.true refl c.in_ok-put_part.ensures c.in_ok-led.ensures
 
-pub returns-in-Cut : goal.returns-in-Cut
-returns-in-Cut c =
-    let is : c.in_ok-state.field-0 ≡ led_of c.args.state (iteration c.unroll.result c.args.turns.site c.args.turns.made c.args.state) = c.in_ok-state.ensures in
-    cuts c.args.state c.in-Cut.state (iteration c.args.job.now.limits.unroll c.args.turns.site c.args.turns.made c.args.state) c.in_ok-state.field-0 c.in-Cut.gap
-    (at (acts (trees c.args.turns.body.now) (AfterBody (one_turn_more (turns_of c.args.turns)) ∷ items_of c.args.control.items)))
-    c.in-Cut.is (is ∙ ap (λ unroll. led_of c.args.state (iteration unroll c.args.turns.site c.args.turns.made c.args.state)) c.unroll.ensures)
+pub returns-in_ok-led-clause-few : goal.returns-in_ok-led-clause-few
+returns-in_ok-led-clause-few c =
+    let a = c.args in
+    few_command a.state.now c.iteration_act_in.new.state (on (repeat_loop a.turns.site (a.turns.made + 1) (marked mark.Iter a.turns.site a.state.now))) c.in_ok-led.led c.in_ok-led.ensures
+
+pub returns-else-made-unroll-clause-leads : goal.returns-else-made-unroll-clause-leads
+returns-else-made-unroll-clause-leads c =
+    let a = c.args in
+    past_bound (job_tree a.job.now) a.state.now (turns_of a.turns) (items_of a.control.now.items) c.unroll-unroll.result c.unroll-unroll.ensures c.if-made-unroll.false

@@ -19,5 +19,5 @@ pub returns-clause-owed : goal.returns-clause-owed
 returns-clause-owed g c =
     let kinds = map (λ b. (goal.Domain-dyn g (b.vtable, b.value)).number b.value) c.args.domains.now.items in
     let own : c.in_ok-job.job.kinds ≡ kinds = search rules in
-    owed_is kinds c.args.message.now (message_bytes (message_tree c.fitted.result)) (job_tree c.in_ok-job.job) c.in_ok-found.found c.requires.message c.in_ok-job.ensures.asks own
+    owed_is kinds c.args.message.now (message_bytes (message_tree c.fitted.result.message)) (job_tree c.in_ok-job.job) c.in_ok-found.found c.requires.message c.in_ok-job.ensures.asks own
     (record { table = c.in_ok-found.ensures.table; own = c.in_ok-found.ensures.own }) c.fitted.ensures.bytes (c.is_in_range.ensures.0 c.if-not-is_in_range.false)
