@@ -22,18 +22,26 @@ terms_of m = distinct (mentions m)
 
 -- ---- in a version
 
--- what is said, and in which version of the bytes
+-- what is said, as plain data, and in which version of the bytes
 pub record Told : Type 0 where
   pub version : ℕ
   pub says : MessageTree
+
+-- what is said, and in which version
+pub record Sent : Type 0 where
+  pub version : ℕ
+  pub said : Said
+
+abbrev pub told : Sent → Told
+told m = record { version = m.version; says = said_tree m.said }
 
 -- version 2 where there is a list of terms
 abbrev pub version_of : Option (List Polynomial) → ℕ
 version_of None = 1
 version_of (Some terms) = 2
 
-abbrev pub told : Said → Option (List Polynomial) → Told
-told said terms = record { version = version_of terms; says = said_tree said }
+abbrev pub sent : Said → Option (List Polynomial) → Sent
+sent said terms = record { version = version_of terms; said = said }
 
 -- where there is a list, it is that of the terms
 abbrev pub HasTerms : Said → Option (List Polynomial) → Type 0

@@ -14,8 +14,8 @@ use Rattle.px_spelling.specs.Derivations.{derivation_bytes, IsDerivation}
 use Rattle.px_wire.specs.TableRanges.{table_within}
 use Rattle.px_wire.specs.JobRanges.{job_within, rises}
 use Rattle.px_wire.specs.Jobs.{job_bytes, IsJob}
-use Rattle.px_wire.specs.MessageTrees.{MessageTree, request, reply, large}
-use Rattle.px_wire.specs.Mentions.{Told, terms_of}
+use Rattle.px_wire.specs.MessageTrees.{MessageTree, request, reply, large, said_tree}
+use Rattle.px_wire.specs.Mentions.{Told, Sent, terms_of}
 
 -- which message it is
 abbrev pub tag_of : MessageTree → ℕ
@@ -95,7 +95,7 @@ SaysTooLarge version message ticket = Spells version message (large ticket)
 -- ---- what is read
 
 -- the message that they spell, and its version; that there is none in any; or memory ran out
-abbrev pub IsDecoded : List ℕ → Result Told WireFault → Type 0
-IsDecoded bytes (Ok t) = Spells t.version bytes t.says
+abbrev pub IsDecoded : List ℕ → Result Sent WireFault → Type 0
+IsDecoded bytes (Ok m) = Spells m.version bytes (said_tree m.said)
 IsDecoded bytes (Err NotAMessage) = (version : ℕ) (m : MessageTree) → ¬ Spells version bytes m
 IsDecoded bytes (Err NoMemory) = ⊤

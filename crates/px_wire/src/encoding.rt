@@ -23,7 +23,7 @@ use std::alloc::Global;
 
 /// The bytes of a message. They spell it where it is in range.
 pub fn encode(alloc: Global, message: &Message) -> Result<Vec<u8>, NoMemory>
-    ensures { IfOk result (λ bytes. bytes.items ≡ message_bytes message.now.version message.now.says) }
+    ensures { IfOk result (λ bytes. bytes.items ≡ message_bytes message.now.version (said_tree message.now.said)) }
 {
     let mut bytes = Vec::new(alloc);
     let mut out = ByteList::new();
@@ -43,7 +43,7 @@ pub fn encode_request(alloc: Global, job: &Job) -> Result<Vec<u8>, NoMemory>
 
 /// How many bytes a message has, or 2^64 - 1 where it has more. Takes no memory.
 pub fn length(message: &Message) -> u64
-    ensures { result ≡ min (length (message_bytes message.now.version message.now.says)) (2 ^ 64 - 1) }
+    ensures { result ≡ min (length (message_bytes message.now.version (said_tree message.now.said))) (2 ^ 64 - 1) }
 {
     let mut count = 0;
     let mut out = ByteCount::new();
@@ -54,17 +54,17 @@ pub fn length(message: &Message) -> u64
 /// Writes the frame of a message, in pieces of at most 4,096 bytes. After `Failed` a front of it was written. Takes no
 /// memory.
 pub fn write<K: Sink>(sink: &mut K, message: &Message) -> Result<(), Failed>
-    requires { length (message_bytes message.now.version message.now.says) ≤ most_bytes }
-    ensures { IsWritten K.told K.takes K.count sink.old (frame_of (message_bytes message.now.version message.now.says)) result sink.new }
+    requires { length (message_bytes message.now.version (said_tree message.now.said)) ≤ most_bytes }
+    ensures { IsWritten K.told K.takes K.count sink.old (frame_of (message_bytes message.now.version (said_tree message.now.said))) result sink.new }
 {
     write_counted(sink, message, frame_length(message))
 }
 
 /// The same, of a message whose bytes were counted.
 pub fn write_counted<K: Sink>(sink: &mut K, message: &Message, count: u32) -> Result<(), Failed>
-    requires counted { count ≡ length (message_bytes (message_tree message.now)) }
+    requires counted { count ≡ length (message_bytes message.now.version (said_tree message.now.said)) }
     requires short { count ≤ most_bytes }
-    ensures { IsWritten K.told K.takes K.count sink.old (frame_of (message_bytes (message_tree message.now))) result sink.new }
+    ensures { IsWritten K.told K.takes K.count sink.old (frame_of (message_bytes message.now.version (said_tree message.now.said))) result sink.new }
 {
     let mut out = new_buffer();
     count.write(&mut out, sink);
@@ -74,15 +74,15 @@ pub fn write_counted<K: Sink>(sink: &mut K, message: &Message, count: u32) -> Re
 
 // How many bytes a message has that has room in a frame.
 fn frame_length(message: &Message) -> u32
-    requires { length (message_bytes message.now.version message.now.says) ≤ most_bytes }
-    ensures { result ≡ length (message_bytes message.now.version message.now.says) }
+    requires { length (message_bytes message.now.version (said_tree message.now.said)) ≤ most_bytes }
+    ensures { result ≡ length (message_bytes message.now.version (said_tree message.now.said)) }
 {
     length(message) as u32
 }
 
 /// Puts the bytes of a message.
 pub(crate) fn write_message<O: Output>(message: &Message, out: &mut O, target: &mut O::Target)
-    ensures written { O.written out.new ≡ O.written out.old ++ message_bytes message.now.version message.now.says }
+    ensures written { O.written out.new ≡ O.written out.old ++ message_bytes message.now.version (said_tree message.now.said) }
     ensures reached { (from : O.Target) → O.reaches from out.old target.old → O.reaches from out.new target.new }
 {
     match message.terms() {

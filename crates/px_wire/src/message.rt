@@ -49,11 +49,11 @@ pub struct Message {
 }
 
 impl Model for Message {
-    ghost use Rattle.px_wire.specs.Mentions.{Told, told, HasTerms};
+    ghost use Rattle.px_wire.specs.Mentions.{Sent, sent, HasTerms};
 
-    ghost Value = { Told };
+    ghost Value = { Sent };
 
-    ghost view = { λ m. told m.said m.terms };
+    ghost view = { λ m. sent m.said m.terms };
 
     ghost invariant = { λ m. HasTerms m.said m.terms };
 }
@@ -61,7 +61,7 @@ impl Model for Message {
 impl Message {
     /// A message in version 1. Takes no memory.
     pub fn new(alloc: Global, said: Said) -> Message
-        ensures { result ≡ record { version = 1; says = said_tree said } }
+        ensures { result ≡ record { version = 1; said = said } }
     {
         Message {
             alloc,
@@ -73,7 +73,7 @@ impl Message {
     /// A message in version 2, with its terms. Takes no memory.
     pub(crate) fn with_terms(alloc: Global, said: Said, terms: TermList) -> Message
         requires { terms ≡ terms_of (said_tree said) }
-        ensures { result ≡ record { version = 2; says = said_tree said } }
+        ensures { result ≡ record { version = 2; said = said } }
     {
         Message {
             alloc,
@@ -95,7 +95,7 @@ impl Message {
     /// Its terms, in version 2. Takes no memory.
     pub fn terms(&self) -> Option<&TermList>
         ensures full { IfNone result (self.now.version ≡ 1) }
-        ensures shared { IfSome result (λ ts. (self.now.version ≡ 2) × (ts.now ≡ terms_of self.now.says)) }
+        ensures shared { IfSome result (λ ts. (self.now.version ≡ 2) × (ts.now ≡ terms_of (said_tree self.now.said))) }
     {
         self.terms.as_ref()
     }
@@ -107,14 +107,14 @@ impl Message {
 
     /// What it says. Takes no memory.
     pub fn said(&self) -> &Said
-        ensures { said_tree result.now ≡ self.now.says }
+        ensures { result.now ≡ self.now.said }
     {
         &self.said
     }
 
     /// What it says. Takes no memory.
     pub fn into_said(self) -> Said
-        ensures { said_tree result ≡ self.says }
+        ensures { result ≡ self.said }
     {
         let Message {
             alloc: _,

@@ -18,14 +18,14 @@ use px_spelling::{InFull, Terms, Wire, WireWith, are_in_range, are_in_range_with
 
 /// Whether a message is in range, so that its bytes spell it. Takes no memory.
 pub fn is_in_range(message: &Message) -> bool
-    ensures { result ≡ true ↔ IsMessage message.now.says × HasVersion message.now.version message.now.says }
+    ensures { result ≡ true ↔ IsMessage (said_tree message.now.said) × HasVersion message.now.version (said_tree message.now.said) }
 {
     is_said_in_range(message.said()) && are_terms_few(message)
 }
 
 // Whether the terms of a message can be counted.
 fn are_terms_few(message: &Message) -> bool
-    ensures { result ≡ true ↔ HasVersion message.now.version message.now.says }
+    ensures { result ≡ true ↔ HasVersion message.now.version (said_tree message.now.said) }
 {
     match message.terms() {
         None => true,

@@ -13,7 +13,7 @@ use std::alloc::Global;
 
 /// The same message in version 2. Where there is no memory for the list of its terms, it is gone.
 pub fn share(message: Message) -> Result<Message, NoMemory>
-    ensures { IfOk result (λ m. m ≡ record { version = 2; says = message.says }) }
+    ensures { IfOk result (λ m. m ≡ record { version = 2; said = message.said }) }
 {
     let alloc = message.alloc();
     let said = message.into_said();
