@@ -1,5 +1,5 @@
 -- What is read behind a list of terms.
-use Rattle.std.proofs.Common.{◌≡◌, ℕ, List, [], ◌∷◌, ◌++◌, length, Bool, true, false, Option, Some, None, inr, refl, sym, ap, subst, ◌∙◌, arith}
+use Rattle.std.proofs.Common.{◌≡◌, ℕ, List, [], ◌∷◌, ◌++◌, length, Bool, true, false, Option, Some, None, inl, inr, refl, sym, ap, subst, ◌∙◌, arith}
 use Rattle.std.specs.Prelude.{◌≢◌, option_and_then}
 use Rattle.std.specs.List.{AllByRecursion}
 use Rattle.std.proofs.lemmas.Bool.{false_from_ne_true}
@@ -43,10 +43,16 @@ begins_listed tag bytes behind_list rest terms m other first list fields are =
     let list_is : terms_bytes m ≡ list_bytes polynomial_bytes terms = has_list m (λ e. other (sym fields.0 ∙ e)) ∙ ap (list_bytes polynomial_bytes) are in
     let first_is : bytes ≡ terms_bytes m ++ behind_list = first ∙ ap (λ b. b ++ behind_list) (sym list_is) in
     let next_is : behind_list ≡ own ++ rest = subst (λ ts. behind_list ≡ fields_bytes (by_place ts) m ++ rest) (sym are) fields.1 in
-    let all : bytes ≡ (terms_bytes m ++ own) ++ rest = behind bytes (terms_bytes m) behind_list own rest first_is next_is in
-    (ap (λ t. t ∷ 2 ∷ bytes) (sym fields.0) ∙ ap (λ b. tag_of m ∷ 2 ∷ b) all,
-     from_terms (by_place terms) m fields.2 (subst (AllByRecursion in_full.fits) (sym are) list.2),
-     inr (refl, subst (λ ts. IsU32 (length ts)) (sym are) list.0))
+    let all : bytes ≡ (terms_bytes m ++ own) ++ rest = behind bytes (terms_bytes m) behind_list own rest first_is next_is in (
+      ap (λ t. t ∷ 2 ∷ bytes) (sym fields.0) ∙ ap (λ b. tag_of m ∷ 2 ∷ b) all,
+      from_terms (by_place terms) m fields.2 (subst (AllByRecursion in_full.fits) (sym are) list.2),
+      inr (refl, subst (λ ts. IsU32 (length ts)) (sym are) list.0),
+    )
+
+-- ---- the bytes behind the version
+
+pub begins_full : (tag : ℕ) (bytes rest : List ℕ) (m : MessageTree) → AreFields in_full tag bytes m rest → BeginWith (tag ∷ 1 ∷ bytes) (told_of 1 m) rest
+begins_full tag bytes rest m fields = (ap (λ t. t ∷ 1 ∷ bytes) (sym fields.0) ∙ ap (λ b. tag_of m ∷ 1 ∷ b) fields.1, fields.2, inl refl)
 
 pub begins_large : (bytes rest : List ℕ) (m : MessageTree) → AreFields in_full 2 bytes m rest → BeginWith (2 ∷ 2 ∷ bytes) (told_of 2 m) rest
 begins_large bytes rest (request j) fields = absurd (omega (arith, fields.0))

@@ -56,7 +56,7 @@ fn read_message(alloc: Global, bytes: &[u8]) -> Result<(Message, &[u8]), WireFau
 }
 
 // What follows the byte of the version.
-#[tactic(auto, unfolding(crate::specs::Readers::with_version))]
+#[tactic(auto, unfolding(crate::specs::Readers::with_version), using(crate::proofs::Listed::begins_full))]
 fn read_version(
     alloc: Global,
     tag: u8,
@@ -77,7 +77,7 @@ fn read_version(
 }
 
 // What follows where each polynomial is sent once. That a reply is too long has no list.
-#[tactic(auto, unfolding(crate::specs::Readers::shared_at))]
+#[tactic(auto, unfolding(crate::specs::Readers::shared_at), using(crate::proofs::Listed::begins_large))]
 fn read_shared(alloc: Global, tag: u8, bytes: &[u8]) -> Result<(Message, &[u8]), WireFault>
     ensures reads { Gives (λ x. (told x.0, x.1.now)) result (told_at 2 (shared_at tag) bytes.now) }
     ensures spelled { IfOk result (λ x. BeginWith (tag ∷ 2 ∷ bytes.now) (told x.0) x.1.now) }
@@ -91,7 +91,7 @@ fn read_shared(alloc: Global, tag: u8, bytes: &[u8]) -> Result<(Message, &[u8]),
 }
 
 // A list, and what is said by places in it: the list is that of the terms.
-#[tactic(auto, unfolding(crate::specs::Readers::listed_at))]
+#[tactic(auto, unfolding(crate::specs::Readers::listed_at), using(crate::proofs::Listed::not_listed, crate::proofs::Listed::begins_listed))]
 fn read_listed(alloc: Global, tag: u8, bytes: &[u8]) -> Result<(Message, &[u8]), WireFault>
     requires { tag ≢ 2 }
     ensures reads { Gives (λ x. (told x.0, x.1.now)) result (told_at 2 (listed_at tag) bytes.now) }

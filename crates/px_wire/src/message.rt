@@ -53,6 +53,11 @@ impl Model for Message {
 
     ghost Value = { Sent };
 
+    ghost use Rattle.px_core.specs.contracts.command.Command as command;
+    ghost use Rattle.std.specs.Coded.{codes};
+
+    ghost coded = { Prim.hlevel (codes, command.the_row.coded) };
+
     ghost view = { λ m. sent m.said m.terms };
 
     ghost invariant = { λ m. HasTerms m.said m.terms };
