@@ -11,10 +11,10 @@ use Rattle.px_spelling.specs.ByPlace.{Differ, by_place}
 use Rattle.px_spelling.proofs.Nine.{behind}
 use Rattle.px_spelling.proofs.PlaceLemmas.{all_differ}
 use Rattle.px_wire.specs.Jobs.{only_if}
-use Rattle.px_wire.specs.MessageTrees.{MessageTree, request, reply, large}
+use Rattle.px_wire.specs.Messages.{MessageTree, request, reply, large, tag_of, fields_bytes, AreFields}
 use Rattle.px_wire.specs.Mentions.{mentions, terms_of}
-use Rattle.px_wire.specs.Messages.{tag_of, fields_bytes, terms_bytes, BeginWith, AreFields}
-use Rattle.px_wire.specs.Readers.{fields_at, are_terms, with_terms, told_of}
+use Rattle.px_wire.specs.Versions.{terms_bytes, BeginWith}
+use Rattle.px_wire.specs.Readers.{fields_at, are_terms, with_terms}
 use Rattle.px_wire.proofs.MessageRanges.{from_terms}
 use Rattle.px_wire.proofs.MessageRoundTrips.{same_terms}
 
@@ -37,7 +37,7 @@ has_list (reply ticket kinds table derivations) n = refl
 has_list (large ticket) n = absurd (n refl)
 
 pub begins_listed : (tag : ℕ) (bytes behind_list rest : List ℕ) (terms : List Polynomial) (m : MessageTree) → tag ≢ 2 → bytes ≡ list_bytes polynomial_bytes terms ++ behind_list
-    → IsList IsPolynomialInRange any_number terms → AreFields (by_place terms) tag behind_list m rest → terms_of m ≡ terms → BeginWith (tag ∷ 2 ∷ bytes) (told_of 2 m) rest
+    → IsList IsPolynomialInRange any_number terms → AreFields (by_place terms) tag behind_list m rest → terms_of m ≡ terms → BeginWith (tag ∷ 2 ∷ bytes) 2 m rest
 begins_listed tag bytes behind_list rest terms m other first list fields are =
     let own = fields_bytes (by_place (terms_of m)) m in
     let list_is : terms_bytes m ≡ list_bytes polynomial_bytes terms = has_list m (λ e. other (sym fields.0 ∙ e)) ∙ ap (list_bytes polynomial_bytes) are in
@@ -51,10 +51,10 @@ begins_listed tag bytes behind_list rest terms m other first list fields are =
 
 -- ---- the bytes behind the version
 
-pub begins_full : (tag : ℕ) (bytes rest : List ℕ) (m : MessageTree) → AreFields in_full tag bytes m rest → BeginWith (tag ∷ 1 ∷ bytes) (told_of 1 m) rest
+pub begins_full : (tag : ℕ) (bytes rest : List ℕ) (m : MessageTree) → AreFields in_full tag bytes m rest → BeginWith (tag ∷ 1 ∷ bytes) 1 m rest
 begins_full tag bytes rest m fields = (ap (λ t. t ∷ 1 ∷ bytes) (sym fields.0) ∙ ap (λ b. tag_of m ∷ 1 ∷ b) fields.1, fields.2, inl refl)
 
-pub begins_large : (bytes rest : List ℕ) (m : MessageTree) → AreFields in_full 2 bytes m rest → BeginWith (2 ∷ 2 ∷ bytes) (told_of 2 m) rest
+pub begins_large : (bytes rest : List ℕ) (m : MessageTree) → AreFields in_full 2 bytes m rest → BeginWith (2 ∷ 2 ∷ bytes) 2 m rest
 begins_large bytes rest (request j) fields = absurd (omega (arith, fields.0))
 begins_large bytes rest (reply ticket kinds table derivations) fields = absurd (omega (arith, fields.0))
 begins_large bytes rest (large ticket) fields = (ap (λ b. 2 ∷ 2 ∷ b) fields.1, fields.2, inr (refl, omega arith))

@@ -12,9 +12,8 @@ use Rattle.px_spelling.specs.Mentions.{callee_mentions}
 use Rattle.px_spelling.proofs.MentionRanges.{Ranges, list_ranges, callee_ranges, table_ranges}
 use Rattle.px_spelling.proofs.DistinctLemmas.{mentioned_fit, all_once, all_mentioned}
 use Rattle.px_wire.specs.Jobs.{IsKnown}
-use Rattle.px_wire.specs.MessageTrees.{MessageTree, request, reply, large}
 use Rattle.px_wire.specs.Mentions.{mentions, terms_of}
-use Rattle.px_wire.specs.Messages.{IsSaid, IsMessage}
+use Rattle.px_wire.specs.Messages.{MessageTree, request, reply, large, IsSaid, IsMessage}
 
 known_ranges : Ranges IsKnown (λ (c : ProcId × Callee). callee_mentions c.1)
 known_ranges = record {

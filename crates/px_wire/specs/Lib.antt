@@ -3,9 +3,9 @@ pub mod TableRanges
 pub mod BodyRanges
 pub mod JobRanges
 pub mod Jobs
-pub mod MessageTrees
-pub mod Mentions
 pub mod Messages
+pub mod Mentions
+pub mod Versions
 pub mod Readers
 pub mod Sinks
 pub mod Laws

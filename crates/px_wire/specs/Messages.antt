@@ -1,21 +1,33 @@
--- Which bytes spell a message.
-use Rattle.std.specs.Prelude.{◌≡◌, ◌⊎◌, ℕ, ◌==◌, if◌then◌else◌, List, [], ◌∷◌, ◌++◌, length, Result, Ok, Err, true, ⊤}
+-- Messages as plain data, and which bytes spell one in version 1.
+use Rattle.std.specs.Prelude.{◌≡◌, ℕ, List, ◌∷◌, ◌++◌, Result, Ok, Err, true, ⊤}
 use Rattle.px_entry.specs.declared.tables.Table.{Table}
 use Rattle.px_entry.specs.declared.derivations.Derivation.{Derivation}
-use Rattle.px_callgraph.specs.JobTree.{JobTree}
+use Rattle.px_callgraph.specs.JobTree.{JobTree, job_tree}
 use Rattle.px_spelling.specs.declared.fault.WireFault.{WireFault}
 use Rattle.px_spelling.specs.declared.fault.WireFault.TheVariants.{NotAMessage, NoMemory}
-use Rattle.px_spelling.specs.Numbers.{u8_bytes, IsU8, IsU32, u64_bytes, IsU64}
+use Rattle.px_spelling.specs.Numbers.{u8_bytes, IsU8, u64_bytes, IsU64}
 use Rattle.px_spelling.specs.Lists.{list_bytes, IsList, any_number}
-use Rattle.px_spelling.specs.Polynomials.{polynomial_bytes, PolynomialSpelling, in_full}
-use Rattle.px_spelling.specs.ByPlace.{by_place}
+use Rattle.px_spelling.specs.Polynomials.{PolynomialSpelling, in_full}
 use Rattle.px_spelling.specs.Tables.{table_bytes, IsTable}
 use Rattle.px_spelling.specs.Derivations.{derivation_bytes, IsDerivation}
 use Rattle.px_wire.specs.TableRanges.{table_within}
 use Rattle.px_wire.specs.JobRanges.{job_within, rises}
 use Rattle.px_wire.specs.Jobs.{job_bytes, IsJob}
-use Rattle.px_wire.specs.MessageTrees.{MessageTree, request, reply, large, said_tree}
-use Rattle.px_wire.specs.Mentions.{Told, Sent, terms_of}
+use Rattle.px_wire.specs.declared.message.Said.{Said}
+use Rattle.px_wire.specs.declared.message.Said.TheVariants as S
+
+-- messages as plain data
+pub data MessageTree : Type 0 where
+  request : JobTree → MessageTree
+  reply : ℕ → List ℕ → Table → List Derivation → MessageTree
+  large : ℕ → MessageTree
+
+abbrev pub said_tree : Said → MessageTree
+said_tree (S.Request job) = request (job_tree job)
+said_tree (S.Reply ticket kinds table derivations) = reply ticket kinds table derivations
+said_tree (S.Large ticket) = large ticket
+
+-- ---- their bytes
 
 -- which message it is
 abbrev pub tag_of : MessageTree → ℕ
@@ -30,19 +42,13 @@ fields_bytes p (reply ticket kinds table derivations) =
     u64_bytes ticket ++ list_bytes u8_bytes kinds ++ table_bytes p table ++ list_bytes derivation_bytes derivations
 fields_bytes p (large ticket) = u64_bytes ticket
 
--- the list of its terms; that a reply is too long has none
-abbrev pub terms_bytes : MessageTree → List ℕ
-terms_bytes (request j) = list_bytes polynomial_bytes (terms_of (request j))
-terms_bytes (reply ticket kinds table derivations) = list_bytes polynomial_bytes (terms_of (reply ticket kinds table derivations))
-terms_bytes (large ticket) = []
+-- the version of these bytes, in which each polynomial is spelled in full
+abbrev pub version : ℕ
+version = 1
 
--- the terms, and the fields, each polynomial by its place among them
-abbrev pub shared_bytes : MessageTree → List ℕ
-shared_bytes m = terms_bytes m ++ fields_bytes (by_place (terms_of m)) m
-
--- which message it is, the version, and the fields: each polynomial in full in version 1, and sent once in version 2
-abbrev pub message_bytes : ℕ → MessageTree → List ℕ
-message_bytes version m = tag_of m ∷ version ∷ (if version == 2 then shared_bytes m else fields_bytes in_full m)
+-- which message it is, the version, and its fields
+abbrev pub message_bytes : MessageTree → List ℕ
+message_bytes m = tag_of m ∷ version ∷ fields_bytes in_full m
 
 -- as many block types as there are numbers of four bytes: a reply doesn't say how many its job has
 abbrev pub any_types : ℕ
@@ -60,42 +66,32 @@ IsSaid p (large ticket) = IsU64 ticket
 abbrev pub IsMessage : MessageTree → Type 0
 IsMessage m = IsSaid in_full m
 
--- It is version 1; or 2, and its terms can be counted.
-abbrev pub HasVersion : ℕ → MessageTree → Type 0
-HasVersion version m = (version ≡ 1) ⊎ ((version ≡ 2) × IsU32 (length (terms_of m)))
-
--- These bytes spell this message in this version, and nothing follows it.
-abbrev pub Spells : ℕ → List ℕ → MessageTree → Type 0
-Spells version bytes m = (bytes ≡ message_bytes version m) × IsMessage m × HasVersion version m
-
--- ---- their fronts
-
--- these bytes begin with a message in its version, and these follow it
-abbrev pub BeginWith : List ℕ → Told → List ℕ → Type 0
-BeginWith bytes t rest = (bytes ≡ message_bytes t.version t.says ++ rest) × IsMessage t.says × HasVersion t.version t.says
-
--- they begin with the fields of such a message, in a spelling of polynomials
-abbrev pub AreFields : PolynomialSpelling → ℕ → List ℕ → MessageTree → List ℕ → Type 0
-AreFields p tag bytes m rest = (tag_of m ≡ tag) × (bytes ≡ fields_bytes p m ++ rest) × IsSaid p m
+-- These bytes spell this message, and nothing follows it.
+abbrev pub Spells : List ℕ → MessageTree → Type 0
+Spells bytes m = (bytes ≡ message_bytes m) × IsMessage m
 
 -- ---- what a message says
 
 -- it asks for the analysis of this job
-abbrev pub Asks : ℕ → List ℕ → JobTree → Type 0
-Asks version message j = Spells version message (request j)
+abbrev pub Asks : List ℕ → JobTree → Type 0
+Asks message j = Spells message (request j)
 
 -- it replies under this ticket, of domains of these kinds, with this table and these derivations
-abbrev pub Replies : ℕ → List ℕ → ℕ → List ℕ → Table → List Derivation → Type 0
-Replies version message ticket kinds table derivations = Spells version message (reply ticket kinds table derivations)
+abbrev pub Replies : List ℕ → ℕ → List ℕ → Table → List Derivation → Type 0
+Replies message ticket kinds table derivations = Spells message (reply ticket kinds table derivations)
 
 -- it says that the reply under this ticket is too long
-abbrev pub SaysTooLarge : ℕ → List ℕ → ℕ → Type 0
-SaysTooLarge version message ticket = Spells version message (large ticket)
+abbrev pub SaysTooLarge : List ℕ → ℕ → Type 0
+SaysTooLarge message ticket = Spells message (large ticket)
 
 -- ---- what is read
 
--- the message that they spell, and its version; that there is none in any; or memory ran out
-abbrev pub IsDecoded : List ℕ → Result Sent WireFault → Type 0
-IsDecoded bytes (Ok m) = Spells m.version bytes (said_tree m.said)
-IsDecoded bytes (Err NotAMessage) = (version : ℕ) (m : MessageTree) → ¬ Spells version bytes m
+-- the message that they spell; that there is none; or memory ran out
+abbrev pub IsDecoded : List ℕ → Result Said WireFault → Type 0
+IsDecoded bytes (Ok said) = Spells bytes (said_tree said)
+IsDecoded bytes (Err NotAMessage) = (m : MessageTree) → ¬ Spells bytes m
 IsDecoded bytes (Err NoMemory) = ⊤
+
+-- these bytes begin with the fields of the message of a tag, in a spelling of polynomials, and these follow
+abbrev pub AreFields : PolynomialSpelling → ℕ → List ℕ → MessageTree → List ℕ → Type 0
+AreFields p tag bytes m rest = (tag_of m ≡ tag) × (bytes ≡ fields_bytes p m ++ rest) × IsSaid p m

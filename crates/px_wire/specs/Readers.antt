@@ -13,9 +13,8 @@ use Rattle.px_spelling.specs.Derivations.{derivation_at}
 use Rattle.px_wire.specs.TableRanges.{table_within}
 use Rattle.px_wire.specs.JobRanges.{job_within, rises}
 use Rattle.px_wire.specs.Jobs.{only_if, job_at}
-use Rattle.px_wire.specs.MessageTrees.{MessageTree, request, reply, large}
-use Rattle.px_wire.specs.Mentions.{Told, terms_of}
-use Rattle.px_wire.specs.Messages.{any_types}
+use Rattle.px_wire.specs.Messages.{MessageTree, request, reply, large, any_types}
+use Rattle.px_wire.specs.Mentions.{terms_of}
 
 unfoldable pub request_at : PolynomialSpelling → Reader MessageTree
 request_at p = done request <*> (job_at p >>= only_if job_within)
@@ -54,34 +53,31 @@ listed_at tag = list_at polynomial_at any_number >>= with_terms tag
 unfoldable pub shared_at : ℕ → Reader MessageTree
 shared_at tag = if tag == 2 then large_at else listed_at tag
 
--- in a version
-abbrev pub told_of : ℕ → MessageTree → Told
-told_of number m = record { version = number; says = m }
-
-abbrev pub told_at : ℕ → Reader MessageTree → Reader Told
-told_at number reader = done (told_of number) <*> reader
+-- the version, and the message
+abbrev pub told_at : ℕ → Reader MessageTree → Reader (ℕ × MessageTree)
+told_at number reader = reader >>= λ m. done (number, m)
 
 -- after the byte of the version
-unfoldable pub with_version : ℕ → ℕ → Reader Told
+unfoldable pub with_version : ℕ → ℕ → Reader (ℕ × MessageTree)
 with_version tag number =
     if number == 1 then told_at 1 (fields_at in_full tag) else (
     if number == 2 then told_at 2 (shared_at tag) else nothing)
 
-abbrev pub versioned_at : ℕ → Reader Told
+abbrev pub versioned_at : ℕ → Reader (ℕ × MessageTree)
 versioned_at tag = u8_at >>= with_version tag
 
-unfoldable pub message_at : Reader Told
+unfoldable pub message_at : Reader (ℕ × MessageTree)
 message_at = u8_at >>= versioned_at
 
 -- what was read, where nothing follows
-abbrev pub alone : Told → List ℕ → Option Told
+abbrev pub alone : ℕ × MessageTree → List ℕ → Option (ℕ × MessageTree)
 alone t [] = Some t
 alone t (b ∷ bytes) = None
 
-abbrev pub whole : Option (Told × List ℕ) → Option Told
+abbrev pub whole : Option ((ℕ × MessageTree) × List ℕ) → Option (ℕ × MessageTree)
 whole None = None
 whole (Some x) = alone x.0 x.1
 
--- the message that bytes spell, and its version, if they spell one
-unfoldable pub message_in : List ℕ → Option Told
+-- the version and the message that bytes spell, if they spell one
+unfoldable pub message_in : List ℕ → Option (ℕ × MessageTree)
 message_in bytes = whole (message_at bytes)

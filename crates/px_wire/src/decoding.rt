@@ -7,13 +7,12 @@ ghost use Rattle.px_spelling.specs.Tables.{table_bytes, IsTable};
 ghost use Rattle.px_wire.specs.TableRanges.{table_within};
 ghost use Rattle.px_wire.specs.JobRanges.{rises};
 ghost use Rattle.px_wire.specs.Jobs.{limits_bytes, limits_of, numbers_at, AreLimits, job_bytes, IsJob, job_at};
-ghost use Rattle.px_wire.specs.MessageTrees.{said_tree};
-ghost use Rattle.px_wire.specs.Mentions.{told};
-ghost use Rattle.px_wire.specs.Messages.{any_types, AreFields, BeginWith, IsDecoded};
+ghost use Rattle.px_wire.specs.Messages.{said_tree, any_types, AreFields, IsDecoded};
+ghost use Rattle.px_wire.specs.Versions.{message_tree, BeginWith, IsDecodedIn};
 ghost use Rattle.px_wire.specs.Readers.{request_at, kinds_at, own_table_at, reply_at, large_at, fields_at, listed_at, shared_at, told_at, with_version, message_at, message_in};
 
 use crate::job_ranges::is_job_within;
-use crate::message::{Message, Said};
+use crate::message::{Message, Said, VERSION};
 use crate::rising_kinds::do_kinds_rise;
 use crate::sharing::{are_terms, share};
 use crate::table_ranges::is_table_within;
@@ -35,8 +34,8 @@ pub const ANY_TYPES: usize = 4_294_967_296;
 /// read.
 #[tactic(auto, unfolding(crate::specs::Readers::message_in))]
 pub fn decode(alloc: Global, bytes: &[u8]) -> Result<Message, WireFault>
-    ensures spelled { IsDecoded bytes.now result }
-    ensures reads { Gives told result (message_in bytes.now) }
+    ensures spelled { IsDecodedIn bytes.now result }
+    ensures reads { Gives (λ m. (m.version, message_tree m)) result (message_in bytes.now) }
 {
     let (message, rest) = read_message(alloc, bytes)?;
     match rest {
@@ -45,10 +44,24 @@ pub fn decode(alloc: Global, bytes: &[u8]) -> Result<Message, WireFault>
     }
 }
 
+/// What the bytes say that spell a message in version 1. `NotAMessage` comes exactly where they spell none in that version; else
+/// `NoMemory`.
+#[tactic(auto, using(crate::proofs::MessageRoundTrips::is_first, crate::proofs::MessageRoundTrips::is_other, crate::proofs::MessageRoundTrips::none_first))]
+pub fn decode_full(alloc: Global, bytes: &[u8]) -> Result<Said, WireFault>
+    ensures { IsDecoded bytes.now result }
+{
+    let message = decode(alloc, bytes)?;
+    if message.version() == VERSION {
+        Ok(message.into_said())
+    } else {
+        Err(WireFault::NotAMessage)
+    }
+}
+
 #[tactic(auto, unfolding(crate::specs::Readers::message_at))]
 fn read_message(alloc: Global, bytes: &[u8]) -> Result<(Message, &[u8]), WireFault>
-    ensures reads { Gives (λ x. (told x.0, x.1.now)) result (message_at bytes.now) }
-    ensures spelled { IfOk result (λ x. BeginWith bytes.now (told x.0) x.1.now) }
+    ensures reads { Gives (λ x. ((x.0.version, message_tree x.0), x.1.now)) result (message_at bytes.now) }
+    ensures spelled { IfOk result (λ x. BeginWith bytes.now x.0.version (message_tree x.0) x.1.now) }
 {
     let (tag, rest) = u8::read(alloc, bytes)?;
     let (version, rest) = u8::read(alloc, rest)?;
@@ -63,8 +76,8 @@ fn read_version(
     version: u8,
     bytes: &[u8],
 ) -> Result<(Message, &[u8]), WireFault>
-    ensures reads { Gives (λ x. (told x.0, x.1.now)) result (with_version tag version bytes.now) }
-    ensures spelled { IfOk result (λ x. BeginWith (tag ∷ version ∷ bytes.now) (told x.0) x.1.now) }
+    ensures reads { Gives (λ x. ((x.0.version, message_tree x.0), x.1.now)) result (with_version tag version bytes.now) }
+    ensures spelled { IfOk result (λ x. BeginWith (tag ∷ version ∷ bytes.now) x.0.version (message_tree x.0) x.1.now) }
 {
     match version {
         1 => {
@@ -79,8 +92,8 @@ fn read_version(
 // What follows where each polynomial is sent once. That a reply is too long has no list.
 #[tactic(auto, unfolding(crate::specs::Readers::shared_at), using(crate::proofs::Listed::begins_large))]
 fn read_shared(alloc: Global, tag: u8, bytes: &[u8]) -> Result<(Message, &[u8]), WireFault>
-    ensures reads { Gives (λ x. (told x.0, x.1.now)) result (told_at 2 (shared_at tag) bytes.now) }
-    ensures spelled { IfOk result (λ x. BeginWith (tag ∷ 2 ∷ bytes.now) (told x.0) x.1.now) }
+    ensures reads { Gives (λ x. ((x.0.version, message_tree x.0), x.1.now)) result (told_at 2 (shared_at tag) bytes.now) }
+    ensures spelled { IfOk result (λ x. BeginWith (tag ∷ 2 ∷ bytes.now) x.0.version (message_tree x.0) x.1.now) }
 {
     if tag == 2 {
         let (said, rest) = read_large(&InFull, alloc, bytes)?;
@@ -94,8 +107,8 @@ fn read_shared(alloc: Global, tag: u8, bytes: &[u8]) -> Result<(Message, &[u8]),
 #[tactic(auto, unfolding(crate::specs::Readers::listed_at), using(crate::proofs::Listed::not_listed, crate::proofs::Listed::begins_listed))]
 fn read_listed(alloc: Global, tag: u8, bytes: &[u8]) -> Result<(Message, &[u8]), WireFault>
     requires { tag ≢ 2 }
-    ensures reads { Gives (λ x. (told x.0, x.1.now)) result (told_at 2 (listed_at tag) bytes.now) }
-    ensures spelled { IfOk result (λ x. BeginWith (tag ∷ 2 ∷ bytes.now) (told x.0) x.1.now) }
+    ensures reads { Gives (λ x. ((x.0.version, message_tree x.0), x.1.now)) result (told_at 2 (listed_at tag) bytes.now) }
+    ensures spelled { IfOk result (λ x. BeginWith (tag ∷ 2 ∷ bytes.now) x.0.version (message_tree x.0) x.1.now) }
 {
     let (all, rest) = read_items(alloc, u32::MAX, bytes)?;
     let Some(terms) = TermList::new(alloc, all)? else {

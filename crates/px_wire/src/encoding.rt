@@ -3,11 +3,11 @@ ghost use Rattle.px_callgraph.specs.JobTree.{job_tree};
 ghost use Rattle.px_frames.specs.Frames.{frame_of, most_bytes};
 ghost use Rattle.px_wire.specs.Sinks.{IsWritten};
 ghost use Rattle.px_wire.specs.Jobs.{limits_bytes, job_bytes};
-ghost use Rattle.px_wire.specs.MessageTrees.{request, reply, said_tree};
+ghost use Rattle.px_wire.specs.Messages.{request, reply, said_tree, tag_of, fields_bytes, message_bytes};
 ghost use Rattle.px_wire.specs.Mentions.{terms_of};
-ghost use Rattle.px_wire.specs.Messages.{tag_of, fields_bytes, terms_bytes, message_bytes};
+ghost use Rattle.px_wire.specs.Versions.{message_tree, terms_bytes, shared_bytes, bytes_in};
 
-use crate::message::{FULL, Message, SHARED, Said};
+use crate::message::{Message, SHARED, Said, VERSION};
 use crate::sink_buffer::{finish, new_buffer};
 use px_base::Limits;
 use px_body_spelling::write_body;
@@ -23,7 +23,7 @@ use std::alloc::Global;
 
 /// The bytes of a message. They spell it where it is in range.
 pub fn encode(alloc: Global, message: &Message) -> Result<Vec<u8>, NoMemory>
-    ensures { IfOk result (λ bytes. bytes.items ≡ message_bytes message.now.version (said_tree message.now.said)) }
+    ensures { IfOk result (λ bytes. bytes.items ≡ bytes_in message.now.version (message_tree message.now)) }
 {
     let mut bytes = Vec::new(alloc);
     let mut out = ByteList::new();
@@ -33,7 +33,7 @@ pub fn encode(alloc: Global, message: &Message) -> Result<Vec<u8>, NoMemory>
 
 /// The bytes of the request to analyse a job, in version 1.
 pub fn encode_request(alloc: Global, job: &Job) -> Result<Vec<u8>, NoMemory>
-    ensures { IfOk result (λ bytes. bytes.items ≡ message_bytes 1 (request (job_tree job.now))) }
+    ensures { IfOk result (λ bytes. bytes.items ≡ message_bytes (request (job_tree job.now))) }
 {
     let mut bytes = Vec::new(alloc);
     let mut out = ByteList::new();
@@ -43,7 +43,7 @@ pub fn encode_request(alloc: Global, job: &Job) -> Result<Vec<u8>, NoMemory>
 
 /// How many bytes a message has, or 2^64 - 1 where it has more. Takes no memory.
 pub fn length(message: &Message) -> u64
-    ensures { result ≡ min (length (message_bytes message.now.version (said_tree message.now.said))) (2 ^ 64 - 1) }
+    ensures { result ≡ min (length (bytes_in message.now.version (message_tree message.now))) (2 ^ 64 - 1) }
 {
     let mut count = 0;
     let mut out = ByteCount::new();
@@ -54,17 +54,17 @@ pub fn length(message: &Message) -> u64
 /// Writes the frame of a message, in pieces of at most 4,096 bytes. After `Failed` a front of it was written. Takes no
 /// memory.
 pub fn write<K: Sink>(sink: &mut K, message: &Message) -> Result<(), Failed>
-    requires { length (message_bytes message.now.version (said_tree message.now.said)) ≤ most_bytes }
-    ensures { IsWritten K.told K.takes K.count sink.old (frame_of (message_bytes message.now.version (said_tree message.now.said))) result sink.new }
+    requires { length (bytes_in message.now.version (message_tree message.now)) ≤ most_bytes }
+    ensures { IsWritten K.told K.takes K.count sink.old (frame_of (bytes_in message.now.version (message_tree message.now))) result sink.new }
 {
     write_counted(sink, message, frame_length(message))
 }
 
 /// The same, of a message whose bytes were counted.
 pub fn write_counted<K: Sink>(sink: &mut K, message: &Message, count: u32) -> Result<(), Failed>
-    requires counted { count ≡ length (message_bytes message.now.version (said_tree message.now.said)) }
+    requires counted { count ≡ length (bytes_in message.now.version (message_tree message.now)) }
     requires short { count ≤ most_bytes }
-    ensures { IsWritten K.told K.takes K.count sink.old (frame_of (message_bytes message.now.version (said_tree message.now.said))) result sink.new }
+    ensures { IsWritten K.told K.takes K.count sink.old (frame_of (bytes_in message.now.version (message_tree message.now))) result sink.new }
 {
     let mut out = new_buffer();
     count.write(&mut out, sink);
@@ -74,15 +74,15 @@ pub fn write_counted<K: Sink>(sink: &mut K, message: &Message, count: u32) -> Re
 
 // How many bytes a message has that has room in a frame.
 fn frame_length(message: &Message) -> u32
-    requires { length (message_bytes message.now.version (said_tree message.now.said)) ≤ most_bytes }
-    ensures { result ≡ length (message_bytes message.now.version (said_tree message.now.said)) }
+    requires { length (bytes_in message.now.version (message_tree message.now)) ≤ most_bytes }
+    ensures { result ≡ length (bytes_in message.now.version (message_tree message.now)) }
 {
     length(message) as u32
 }
 
 /// Puts the bytes of a message.
 pub(crate) fn write_message<O: Output>(message: &Message, out: &mut O, target: &mut O::Target)
-    ensures written { O.written out.new ≡ O.written out.old ++ message_bytes message.now.version (said_tree message.now.said) }
+    ensures written { O.written out.new ≡ O.written out.old ++ bytes_in message.now.version (message_tree message.now) }
     ensures reached { (from : O.Target) → O.reaches from out.old target.old → O.reaches from out.new target.new }
 {
     match message.terms() {
@@ -93,26 +93,26 @@ pub(crate) fn write_message<O: Output>(message: &Message, out: &mut O, target: &
 
 // Puts the bytes of a request in version 1.
 fn write_request<O: Output>(job: &Job, out: &mut O, target: &mut O::Target)
-    ensures written { O.written out.new ≡ O.written out.old ++ message_bytes 1 (request (job_tree job.now)) }
+    ensures written { O.written out.new ≡ O.written out.old ++ message_bytes (request (job_tree job.now)) }
     ensures reached { (from : O.Target) → O.reaches from out.old target.old → O.reaches from out.new target.new }
 {
-    write_head(0, FULL, out, target);
+    write_head(0, VERSION, out, target);
     write_job(&InFull, job, out, target)
 }
 
 // Puts the bytes of version 1.
 fn write_full<O: Output>(said: &Said, out: &mut O, target: &mut O::Target)
-    ensures written { O.written out.new ≡ O.written out.old ++ message_bytes 1 (said_tree said.now) }
+    ensures written { O.written out.new ≡ O.written out.old ++ message_bytes (said_tree said.now) }
     ensures reached { (from : O.Target) → O.reaches from out.old target.old → O.reaches from out.new target.new }
 {
-    write_head(tag(said), FULL, out, target);
+    write_head(tag(said), VERSION, out, target);
     write_fields(&InFull, said, out, target)
 }
 
 // Puts the bytes of version 2, with these terms.
 fn write_shared<O: Output>(terms: &TermList, said: &Said, out: &mut O, target: &mut O::Target)
     requires { terms.now ≡ terms_of (said_tree said.now) }
-    ensures written { O.written out.new ≡ O.written out.old ++ message_bytes 2 (said_tree said.now) }
+    ensures written { O.written out.new ≡ O.written out.old ++ shared_bytes (said_tree said.now) }
     ensures reached { (from : O.Target) → O.reaches from out.old target.old → O.reaches from out.new target.new }
 {
     write_head(tag(said), SHARED, out, target);

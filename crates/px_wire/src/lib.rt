@@ -19,10 +19,10 @@ mod sink_buffer;
 mod table_ranges;
 mod term_ranges;
 
-pub use decoding::{ANY_TYPES, decode};
+pub use decoding::{ANY_TYPES, decode, decode_full};
 pub use encoding::{encode, encode_request, length, write, write_counted};
 pub use laws::{encoded_is_decoded, one_spelling};
-pub use message::{FULL, Message, SHARED, Said};
+pub use message::{Message, SHARED, Said, VERSION};
 pub use message_ranges::{is_in_range, is_request_in_range};
 pub use rising_kinds::do_kinds_rise;
 pub use sharing::share;

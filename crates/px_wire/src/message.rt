@@ -1,5 +1,5 @@
 ghost use Rattle.std.specs.Prelude.{◌≡◌, IfNone, IfSome};
-ghost use Rattle.px_wire.specs.MessageTrees.{said_tree};
+ghost use Rattle.px_wire.specs.Messages.{said_tree};
 ghost use Rattle.px_wire.specs.Mentions.{terms_of};
 
 use px_callgraph::Job;
@@ -10,7 +10,7 @@ use std::alloc::Global;
 use std::marker::Model;
 
 /// The version of the bytes in which each polynomial is spelled in full.
-pub const FULL: u8 = 1;
+pub const VERSION: u8 = 1;
 /// The version in which each polynomial is sent once.
 pub const SHARED: u8 = 2;
 
@@ -49,7 +49,7 @@ pub struct Message {
 }
 
 impl Model for Message {
-    ghost use Rattle.px_wire.specs.Mentions.{Sent, sent, HasTerms};
+    ghost use Rattle.px_wire.specs.Versions.{Sent, sent, HasTerms};
 
     ghost Value = { Sent };
 
@@ -92,7 +92,7 @@ impl Message {
         ensures { result ≡ self.now.version }
     {
         match &self.terms {
-            None => FULL,
+            None => VERSION,
             Some(_) => SHARED,
         }
     }

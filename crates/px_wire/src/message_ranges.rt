@@ -2,8 +2,8 @@ ghost use Rattle.std.specs.Prelude.{◌≡◌, ◌↔◌, true};
 ghost use Rattle.px_base.specs.LimitNumbers.{IsInRange};
 ghost use Rattle.px_callgraph.specs.JobTree.{job_tree};
 ghost use Rattle.px_wire.specs.Jobs.{IsJob};
-ghost use Rattle.px_wire.specs.MessageTrees.{request, reply, said_tree};
-ghost use Rattle.px_wire.specs.Messages.{IsMessage, HasVersion};
+ghost use Rattle.px_wire.specs.Messages.{request, reply, said_tree, IsMessage};
+ghost use Rattle.px_wire.specs.Versions.{message_tree, HasVersion};
 
 use crate::decoding::ANY_TYPES;
 use crate::job_ranges::is_job_within;
@@ -18,14 +18,14 @@ use px_spelling::{InFull, Terms, Wire, WireWith, are_in_range, are_in_range_with
 
 /// Whether a message is in range, so that its bytes spell it. Takes no memory.
 pub fn is_in_range(message: &Message) -> bool
-    ensures { result ≡ true ↔ IsMessage (said_tree message.now.said) × HasVersion message.now.version (said_tree message.now.said) }
+    ensures { result ≡ true ↔ IsMessage (message_tree message.now) × HasVersion message.now.version (message_tree message.now) }
 {
     is_said_in_range(message.said()) && are_terms_few(message)
 }
 
 // Whether the terms of a message can be counted.
 fn are_terms_few(message: &Message) -> bool
-    ensures { result ≡ true ↔ HasVersion message.now.version (said_tree message.now.said) }
+    ensures { result ≡ true ↔ HasVersion message.now.version (message_tree message.now) }
 {
     match message.terms() {
         None => true,

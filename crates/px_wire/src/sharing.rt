@@ -1,7 +1,7 @@
 ghost use Rattle.std.specs.Prelude.{◌≡◌, ◌↔◌, ◌++◌, true, map, IfOk, OnOk};
 ghost use Rattle.std.specs.List.{flat_map};
 ghost use Rattle.px_spelling.specs.Mentions.{callee_mentions};
-ghost use Rattle.px_wire.specs.MessageTrees.{said_tree};
+ghost use Rattle.px_wire.specs.Messages.{said_tree};
 ghost use Rattle.px_wire.specs.Mentions.{mentions, terms_of};
 
 use crate::message::{Message, Said};

@@ -1,6 +1,5 @@
 use Rattle.px_spelling.specs.Polynomials.{in_full}
-use Rattle.px_wire.specs.MessageTrees.{said_tree}
-use Rattle.px_wire.specs.Messages.{tag_of, fields_bytes}
+use Rattle.px_wire.specs.Messages.{said_tree, tag_of, fields_bytes}
 use Rattle.px_wire.proofs.Put.{put_version}
 use Rattle.px_wire.proofs.encoding.write_full.Goals as goal
 

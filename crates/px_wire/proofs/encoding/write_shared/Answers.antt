@@ -1,9 +1,9 @@
 use Rattle.std.proofs.Common.{◌≡◌, ◌++◌, subst}
 use Rattle.px_spelling.specs.ByPlace.{by_place}
 use Rattle.px_spelling.proofs.Nine.{put_more}
-use Rattle.px_wire.specs.MessageTrees.{said_tree}
 use Rattle.px_wire.specs.Mentions.{terms_of}
-use Rattle.px_wire.specs.Messages.{tag_of, fields_bytes, terms_bytes}
+use Rattle.px_wire.specs.Messages.{said_tree, tag_of, fields_bytes}
+use Rattle.px_wire.specs.Versions.{terms_bytes}
 use Rattle.px_wire.proofs.Put.{put_version}
 use Rattle.px_wire.proofs.encoding.write_shared.Goals as goal
 
