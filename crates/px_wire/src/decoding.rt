@@ -48,7 +48,7 @@ pub fn decode(alloc: Global, bytes: &[u8]) -> Result<Message, WireFault>
 /// `NoMemory`.
 #[tactic(auto, using(crate::proofs::MessageRoundTrips::is_first, crate::proofs::MessageRoundTrips::is_other, crate::proofs::MessageRoundTrips::none_first))]
 pub fn decode_full(alloc: Global, bytes: &[u8]) -> Result<Said, WireFault>
-    ensures { IsDecoded bytes.now result }
+    ensures spelled { IsDecoded bytes.now result }
 {
     let message = decode(alloc, bytes)?;
     if message.version() == VERSION {

@@ -31,6 +31,16 @@ pub fn encode(alloc: Global, message: &Message) -> Result<Vec<u8>, NoMemory>
     if out.lost { Err(NoMemory) } else { Ok(bytes) }
 }
 
+/// The bytes of what is said, in version 1.
+pub fn encode_full(alloc: Global, said: &Said) -> Result<Vec<u8>, NoMemory>
+    ensures { IfOk result (λ bytes. bytes.items ≡ message_bytes (said_tree said.now)) }
+{
+    let mut bytes = Vec::new(alloc);
+    let mut out = ByteList::new();
+    write_full(said, &mut out, &mut bytes);
+    if out.lost { Err(NoMemory) } else { Ok(bytes) }
+}
+
 /// The bytes of the request to analyse a job, in version 1.
 pub fn encode_request(alloc: Global, job: &Job) -> Result<Vec<u8>, NoMemory>
     ensures { IfOk result (λ bytes. bytes.items ≡ message_bytes (request (job_tree job.now))) }

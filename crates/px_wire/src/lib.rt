@@ -20,10 +20,10 @@ mod table_ranges;
 mod term_ranges;
 
 pub use decoding::{ANY_TYPES, decode, decode_full};
-pub use encoding::{encode, encode_request, length, write, write_counted};
+pub use encoding::{encode, encode_full, encode_request, length, write, write_counted};
 pub use laws::{encoded_is_decoded, one_spelling};
 pub use message::{Message, SHARED, Said, VERSION};
-pub use message_ranges::{is_in_range, is_request_in_range};
+pub use message_ranges::{is_in_range, is_request_in_range, is_said_in_range};
 pub use rising_kinds::do_kinds_rise;
 pub use sharing::share;
 pub use table_ranges::{is_drop_within, is_entry_within};

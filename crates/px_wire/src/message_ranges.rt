@@ -33,7 +33,8 @@ fn are_terms_few(message: &Message) -> bool
     }
 }
 
-fn is_said_in_range(said: &Said) -> bool
+/// Whether what is said is in range, so that its bytes in version 1 spell it. Takes no memory.
+pub fn is_said_in_range(said: &Said) -> bool
     ensures { result ≡ true ↔ IsMessage (said_tree said.now) }
 {
     match said {
