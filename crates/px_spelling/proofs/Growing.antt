@@ -2,14 +2,14 @@
 use Rattle.std.proofs.Common.{◌≡◌, ℕ, zero, suc, ◌+◌, ◌<◌, ◌≤◌, List, [], ◌∷◌, ◌++◌, length, take, drop, get_or, Bool, true, false, cond, ◌||◌, Option, Some, None, is_some, refl, sym, ap, subst, ◌∙◌, append_assoc, arith}
 use Rattle.std.specs.Prelude.{filter, not, slice_get, nat_eq, nat_lt, option_and_then, ◌≢◌, ⊤}
 use Rattle.std.specs.Option.{option_map, option_eq}
-use Rattle.std.proofs.lemmas.Option.{same_Some}
+use Rattle.std.proofs.lemmas.Option.{same_Some, slice_get_within, slice_get-get_or}
 use Rattle.std.proofs.lemmas.Bool.Decides.{nat_tests}
 use Rattle.std.proofs.lemmas.List.{append-nil, take_more, take_all, take-append-drop, length-take-le}
 use Rattle.std.proofs.lemmas.List.Elements.{filter-append}
 use Rattle.px_terms.specs.Polynomials.{Polynomial}
 use Rattle.px_spelling.specs.ByPlace.{is_same, distinct, Differ, place_in, is_first_at}
 use Rattle.px_spelling.proofs.PlaceLemmas.{same_decides, same_itself, all_differ, found}
-use Rattle.px_spelling.proofs.IndexLemmas.{own_place, within}
+use Rattle.px_spelling.proofs.IndexLemmas.{own_place}
 
 -- some polynomial
 pub nought : Polynomial
@@ -86,15 +86,10 @@ not_before [] i p e = absurd cc
 not_before (q ∷ qs) zero p e = subst (λ x. false ≡ not (option_eq nat_eq (place_in (q ∷ qs) x) (Some 0))) (same_Some q p e) (rw (same_itself q) refl)
 not_before (q ∷ qs) (suc i) p e = first_by (is_same q p) (place_in (take i qs) p) (place_in qs p) i (not_before qs i p e)
 
-pub stands_at : (ps : List Polynomial) (i : ℕ) (d : Polynomial) → i < length ps → slice_get ps i ≡ Some (get_or ps i d)
-stands_at [] i d lt = absurd (omega (arith, lt))
-stands_at (q ∷ qs) zero d lt = refl
-stands_at (q ∷ qs) (suc i) d lt = stands_at qs i d (omega (arith, lt))
-
 -- the list that has each once, at the next place
 pub first_more : (ps : List Polynomial) (i : ℕ) (d : Polynomial) → i < length ps → distinct (take (i + 1) ps) ≡ grown (not (is_first_at ps i)) (distinct (take i ps)) (get_or ps i d)
 first_more ps i d lt =
-    let stands = stands_at ps i d lt in
+    let stands = slice_get-get_or ps i d lt in
     let first : is_some (place_in (take i ps) (get_or ps i d)) ≡ not (is_first_at ps i) = rw stands (not_before ps i (get_or ps i d) stands) in
     ap distinct (take_more ps i d lt) ∙ distinct_more (take i ps) (get_or ps i d) ∙ ap (λ b. grown b (distinct (take i ps)) (get_or ps i d)) first
 
@@ -111,7 +106,7 @@ not_added ps old new i lt later so_far is =
 
 -- where no two are the same, each is there first
 pub differ_first : (ps : List Polynomial) (i : ℕ) (d : Polynomial) → Differ ps → i < length ps → is_first_at ps i ≡ true
-differ_first ps i d h lt = rw (stands_at ps i d lt, own_place ps i (get_or ps i d) h (stands_at ps i d lt)) (itself i)
+differ_first ps i d h lt = rw (slice_get-get_or ps i d lt, own_place ps i (get_or ps i d) h (slice_get-get_or ps i d lt)) (itself i)
   where
     itself : (i : ℕ) → nat_eq i i ≡ true
     itself i = grind (arith, nat_tests)
@@ -165,8 +160,8 @@ pub lists_new : (ms ts : List Polynomial) (i c : ℕ) (d : Polynomial) → i < l
 lists_new ms ts i c d lt so_far at =
     let p = get_or ms i d in
     let stands : slice_get ts c ≡ Some p = found ts p c at in
-    let few : c < length ts = within ts c p stands in
-    let same : get_or ts c d ≡ p = same_Some (get_or ts c d) p (sym (stands_at ts c d few) ∙ stands) in
+    let few : c < length ts = slice_get_within ts c p stands in
+    let same : get_or ts c d ≡ p = same_Some (get_or ts c d) p (sym (slice_get-get_or ts c d few) ∙ stands) in
     let below : nat_lt c c ≡ false = grind (arith, nat_tests) in
     let longer : distinct (take (i + 1) ms) ≡ take c ts ++ p ∷ [] = listed_more ms ts i c d lt so_far ∙ rw (at, below) refl in
     (few, longer ∙ ap (λ x. take c ts ++ x ∷ []) (sym same) ∙ sym (take_more ts c d few))

@@ -1,5 +1,5 @@
 -- The first place of a polynomial, as it is found among places in their order.
-use Rattle.std.proofs.Common.{◌≡◌, ℕ, zero, suc, ◌+◌, ◌<◌, ◌≤◌, List, [], ◌∷◌, ◌++◌, length, Bool, true, false, cond, Option, Some, None, refl, sym, ap, subst, ◌∙◌, ◌⊎◌, ⊎_elim, inl, inr, arith}
+use Rattle.std.proofs.Common.{◌≡◌, ℕ, zero, suc, ◌+◌, ◌<◌, ◌≤◌, List, [], ◌∷◌, ◌++◌, length, Bool, true, false, cond, Option, Some, None, refl, sym, ap, subst, ◌∙◌, ⊎_elim, arith}
 use Rattle.std.specs.Prelude.{slice_get, slice_index_or}
 use Rattle.std.specs.List.{AllByRecursion, Contains}
 use Rattle.std.specs.List.Sorted.{IsSortedBy, IsPartitionedBy, IsPartitionPoint}
@@ -9,7 +9,8 @@ use Rattle.std.specs.Ordering.{ordering_reverse, ordering_then, nat_cmp, is_lt, 
 use Rattle.std.specs.Option.{option_cmp, option_map}
 use Rattle.std.specs.Cmp.{IsTotalOrder, IsStrictWeakOrder}
 use Rattle.std.specs.Cmp.Lexicographic.{options_total}
-use Rattle.std.proofs.lemmas.Option.{same_Some}
+use Rattle.std.proofs.lemmas.Option.{same_Some, slice_get_within}
+use Rattle.std.proofs.lemmas.Bool.{cases_lt, cases_Bool}
 use Rattle.std.proofs.lemmas.Cmp.{nat_cmp_total, on_total, then_total, tied_itself, ranked}
 use Rattle.std.proofs.lemmas.List.{get_or_default}
 use Rattle.std.proofs.lemmas.List.Elements.{Contains-append_left, Contains-push}
@@ -31,11 +32,6 @@ own_place [] n p h e = cc
 own_place (q ∷ qs) zero p h e = subst (λ x. place_in (q ∷ qs) x ≡ Some 0) (same_Some q p e) (rw (same_itself q) refl)
 own_place (q ∷ qs) (suc n) p h e = rw (all_get (λ r. is_same q r ≡ false) qs n p h.0 e, own_place qs n p h.1 e) refl
 
-pub within : (ps : List Polynomial) (n : ℕ) (p : Polynomial) → slice_get ps n ≡ Some p → n < length ps
-within [] n p e = cc
-within (q ∷ qs) zero p e = omega arith
-within (q ∷ qs) (suc n) p e = omega (arith, within qs n p e)
-
 at_most : (b : Bool) (r : Option ℕ) (n : ℕ) → (m : ℕ) × (r ≡ Some m) × (m ≤ n) → (k : ℕ) × (cond b (Some 0) (option_map suc r) ≡ Some k) × (k ≤ suc n)
 at_most true r n w = (0, refl, omega arith)
 at_most false r n w = (suc w.0, ap (option_map suc) w.1, omega (arith, w.2))
@@ -50,11 +46,6 @@ place_at_most [] n p e = absurd cc
 place_at_most (q ∷ qs) zero p e = at_front (is_same q p) (place_in qs p) (subst (λ x. is_same q x ≡ true) (same_Some q p e) (same_itself q))
 place_at_most (q ∷ qs) (suc n) p e = at_most (is_same q p) (place_in qs p) n (place_at_most qs n p e)
 
-below_or_not : (k i : ℕ) → (k < i) ⊎ (i ≤ k)
-below_or_not k zero = inr (omega arith)
-below_or_not zero (suc i) = inl (omega arith)
-below_or_not (suc k) (suc i) = ⊎_elim (λ l. inl (omega (arith, l))) (λ l. inr (omega (arith, l))) (below_or_not k i)
-
 -- each number below is there, and one more is added
 pub one_more_there : (ks more : List ℕ) (i : ℕ) → more ≡ ks ++ i ∷ [] → ((n : ℕ) → n < i → Contains ks n) → (n : ℕ) → n < i + 1 → Contains more n
 one_more_there ks more i e h n lt =
@@ -62,7 +53,7 @@ one_more_there ks more i e h n lt =
     (λ (l : i ≤ n).
     let same : i ≡ n = omega arith in
     subst (λ xs. Contains xs n) (sym e) (subst (λ m. Contains (ks ++ i ∷ []) m) same (Contains-push ks i)))
-    (below_or_not n i)
+    (cases_lt n i)
 
 -- ---- places in their order
 
@@ -113,10 +104,6 @@ is_less Greater e = cc
 weak : IsStrictWeakOrder (λ (a b : Option Polynomial). is_lt (option_cmp polynomial_cmp a b))
 weak = ranks_by (options_total polynomial_total) (λ (a : Option Polynomial). a)
 
-bool_cases : (b : Bool) → (b ≡ true) ⊎ (b ≡ false)
-bool_cases true = inl refl
-bool_cases false = inr refl
-
 -- no place that is before a polynomial comes after one that isn't
 pub parted : (ts : List Polynomial) (ks : List ℕ) (p : Polynomial) → IsIndex ts ks → IsPartitionedBy (λ k. is_lt (order_at ts p k)) ks
 parted ts ks p h i j d le lt less =
@@ -125,7 +112,7 @@ parted ts ks p h i j d le lt less =
     let chained : is_lt (order_at ts p (slice_index_or ks j d)) ≡ false =
     weak.chain (slice_get ts (slice_index_or ks j d)) (slice_get ts (slice_index_or ks i d)) (Some p) (later_stands ts ks h i j d le lt) e in
     cc)
-    (bool_cases (is_lt (order_at ts p (slice_index_or ks i d))))
+    (cases_Bool (is_lt (order_at ts p (slice_index_or ks i d))))
 
 -- where the places that are before it end
 abbrev pub IsEndOf : List Polynomial → List ℕ → Polynomial → ℕ → Type 0
@@ -152,7 +139,7 @@ record Behind (ts : List Polynomial) (ks : List ℕ) (p : Polynomial) (i m : ℕ
 
 behind : (ts : List Polynomial) (ks : List ℕ) (p : Polynomial) (i m : ℕ) → IsIndex ts ks → IsEndOf ts ks p i → slice_get ts m ≡ Some p → Behind ts ks p i m
 behind ts ks p i m h end stands =
-    let k = h.all m (within ts m p stands) in
+    let k = h.all m (slice_get_within ts m p stands) in
     let equal : order_at ts p (slice_index_or ks k.0 m) ≡ Equal = rw k.2 (stands_equal p (slice_get ts m) stands) in
     record {
       at = k.0;
@@ -163,7 +150,7 @@ behind ts ks p i m h end stands =
           let both : true ≡ false = sym less ∙ ap is_lt equal in
           absurd cc)
           (λ (l : i ≤ k.0). l)
-          (below_or_not k.0 i);
+          (cases_lt k.0 i);
       is = k.2;
     }
 
