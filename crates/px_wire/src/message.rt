@@ -1,5 +1,6 @@
 ghost use Rattle.std.specs.Prelude.{◌≡◌, IfNone, IfSome};
-ghost use Rattle.px_wire.specs.Messages.{said_tree};
+ghost use Rattle.px_wire.specs.Messages.{said_tree, message_bytes};
+ghost use Rattle.px_wire.specs.Versions.{message_tree, bytes_in};
 ghost use Rattle.px_wire.specs.Mentions.{terms_of};
 
 use px_callgraph::Job;
@@ -66,7 +67,8 @@ impl Model for Message {
 impl Message {
     /// A message in version 1. Takes no memory.
     pub fn new(alloc: Global, said: Said) -> Message
-        ensures { result ≡ record { version = 1; said = said } }
+        ensures same { result ≡ record { version = 1; said = said } }
+        ensures bytes { bytes_in result.version (message_tree result) ≡ message_bytes (said_tree said) }
     {
         Message {
             alloc,
