@@ -132,7 +132,8 @@ none_first bytes none m s = none 1 m (in_first bytes m s)
 
 pub none_is_spelled : (bytes : List ℕ) → message_in bytes ≡ None → (number : ℕ) (m : MessageTree) → ¬ SpellsIn number bytes m
 none_is_spelled bytes is_none number m s =
-    let both : None {A = ℕ × MessageTree} ≡ Some (number, m) = sym is_none ∙ spelled_is_read bytes number m s in absurd cc
+    let told : ℕ × MessageTree = (number, m) in
+    let both : None ≡ Some told = sym is_none ∙ spelled_is_read bytes number m s in absurd cc
 
 -- where no message is read in front, or one with more after it
 

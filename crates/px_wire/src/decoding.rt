@@ -1,5 +1,6 @@
 ghost use Rattle.std.specs.Prelude.{◌≡◌, ◌≢◌, ◌++◌, ◌∷◌, IfOk, true};
 ghost use Rattle.px_callgraph.specs.JobTree.{job_tree};
+ghost use Rattle.px_spelling.specs.ByPlace.{by_place};
 ghost use Rattle.px_spelling.specs.Numbers.{u8_bytes, IsU8};
 ghost use Rattle.px_spelling.specs.Lists.{list_bytes, IsList, any_number};
 ghost use Rattle.px_spelling.specs.Reading.{Gives};
@@ -8,13 +9,14 @@ ghost use Rattle.px_wire.specs.TableRanges.{table_within};
 ghost use Rattle.px_wire.specs.JobRanges.{rises};
 ghost use Rattle.px_wire.specs.Jobs.{limits_bytes, limits_of, numbers_at, AreLimits, job_bytes, IsJob, job_at};
 ghost use Rattle.px_wire.specs.Messages.{said_tree, any_types, AreFields, IsDecoded};
+ghost use Rattle.px_wire.specs.Mentions.{terms_of};
 ghost use Rattle.px_wire.specs.Versions.{message_tree, BeginWith, IsDecodedIn};
-ghost use Rattle.px_wire.specs.Readers.{request_at, kinds_at, own_table_at, reply_at, large_at, fields_at, listed_at, shared_at, told_at, with_version, message_at, message_in};
+ghost use Rattle.px_wire.specs.Readers.{request_at, kinds_at, own_table_at, reply_at, large_at, fields_at, listed_at, shared_at, are_terms, with_terms, told_at, with_version, message_at, message_in};
 
 use crate::job_ranges::is_job_within;
 use crate::message::{Message, Said, VERSION};
 use crate::rising_kinds::do_kinds_rise;
-use crate::sharing::{are_terms, share};
+use crate::sharing::{self, share};
 use crate::table_ranges::is_table_within;
 use px_base::{Limits, ProcId};
 use px_body_spelling::read_body;
@@ -23,7 +25,7 @@ use px_entry::Table;
 use px_spelling::{
     InFull, TermList, Terms, Wire, WireFault, WireWith, read_items, read_items_with,
 };
-use px_terms::Items;
+use px_terms::{Items, NoMemory, Poly};
 use std::alloc::Global;
 
 /// More than any number of four bytes.
@@ -103,23 +105,62 @@ fn read_shared(alloc: Global, tag: u8, bytes: &[u8]) -> Result<(Message, &[u8]),
     }
 }
 
-// A list, and what is said by places in it: the list is that of the terms.
-#[tactic(auto, unfolding(crate::specs::Readers::listed_at), using(crate::proofs::Listed::not_listed, crate::proofs::Listed::begins_listed))]
+// A list, and what is said by places in it.
+#[tactic(auto, unfolding(crate::specs::Readers::listed_at))]
 fn read_listed(alloc: Global, tag: u8, bytes: &[u8]) -> Result<(Message, &[u8]), WireFault>
     requires { tag ≢ 2 }
     ensures reads { Gives (λ x. ((x.0.version, message_tree x.0), x.1.now)) result (told_at 2 (listed_at tag) bytes.now) }
     ensures spelled { IfOk result (λ x. BeginWith (tag ∷ 2 ∷ bytes.now) x.0.version (message_tree x.0) x.1.now) }
 {
     let (all, rest) = read_items(alloc, u32::MAX, bytes)?;
+    let (message, rest) = read_behind(alloc, tag, all, rest)?;
+    Ok((message, rest))
+}
+
+// What is said by places in a list. It is that of the terms, so no two of it are the same.
+#[tactic(auto, using(crate::proofs::Listed::not_listed))]
+fn read_behind<'a>(
+    alloc: Global,
+    tag: u8,
+    all: Items<Poly>,
+    bytes: &'a [u8],
+) -> Result<(Message, &'a [u8]), WireFault>
+    ensures reads { Gives (λ x. ((x.0.version, message_tree x.0), x.1.now)) result (told_at 2 (with_terms tag all) bytes.now) }
+    ensures spelled { IfOk result (λ x. (x.0.version ≡ 2) × AreFields (by_place all) tag bytes.now (message_tree x.0) x.1.now × (are_terms all (message_tree x.0) ≡ true)) }
+{
     let Some(terms) = TermList::new(alloc, all)? else {
         return Err(WireFault::NotAMessage);
     };
-    let (said, rest) = read_fields(&terms, alloc, tag, rest)?;
-    if are_terms(alloc, &terms, &said)? {
+    read_by_place(alloc, tag, terms, bytes)
+}
+
+// The same, where no two are.
+#[tactic(auto, unfolding(crate::specs::Readers::with_terms))]
+fn read_by_place<'a>(
+    alloc: Global,
+    tag: u8,
+    terms: TermList,
+    bytes: &'a [u8],
+) -> Result<(Message, &'a [u8]), WireFault>
+    ensures reads { Gives (λ x. ((x.0.version, message_tree x.0), x.1.now)) result (told_at 2 (with_terms tag terms) bytes.now) }
+    ensures spelled { IfOk result (λ x. (x.0.version ≡ 2) × AreFields (by_place terms) tag bytes.now (message_tree x.0) x.1.now × (are_terms terms (message_tree x.0) ≡ true)) }
+{
+    let (said, rest) = read_fields(&terms, alloc, tag, bytes)?;
+    let own = has_terms(alloc, &terms, &said)?;
+    if own {
         Ok((Message::with_terms(alloc, said, terms), rest))
     } else {
         Err(WireFault::NotAMessage)
     }
+}
+
+// Whether these are the terms of what is said.
+fn has_terms(alloc: Global, terms: &TermList, said: &Said) -> Result<bool, NoMemory>
+    ensures test { IfOk result (λ own. own ≡ are_terms terms.now (said_tree said.now)) }
+    ensures own { IfOk result (λ own. own ≡ true → terms.now ≡ terms_of (said_tree said.now)) }
+{
+    let own = sharing::are_terms(alloc, terms, said)?;
+    Ok(own)
 }
 
 // By the byte that says which message it is.
