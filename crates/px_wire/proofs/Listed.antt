@@ -23,10 +23,10 @@ use Rattle.px_wire.proofs.MessageRoundTrips.{same_terms, none_first}
 -- a list in which two are the same is no list of terms, whatever follows it
 pub not_listed : (tag : ℕ) (terms : List Polynomial) (bytes : List ℕ) → ¬ Differ terms → with_terms tag terms bytes ≡ None
 unfolding with_terms
-not_listed tag terms bytes no = by_fields (fields_at (by_place terms) tag bytes)
+not_listed tag terms bytes twice = by_fields (fields_at (by_place terms) tag bytes)
   where
     other : (m : MessageTree) → are_terms terms m ≡ false
-    other m = false_from_ne_true (are_terms terms m) (λ e. no (subst Differ ((same_terms (terms_of m) terms).0 e) (all_differ (mentions m))))
+    other m = false_from_ne_true (are_terms terms m) (λ e. twice (subst Differ ((same_terms (terms_of m) terms).0 e) (all_differ (mentions m))))
 
     by_fields : (r : Option (MessageTree × List ℕ)) → option_and_then (λ (x : MessageTree × List ℕ). only_if (are_terms terms) x.0 x.1) r ≡ None
     by_fields None = refl
