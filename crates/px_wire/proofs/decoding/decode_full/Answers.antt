@@ -5,4 +5,4 @@ use Rattle.px_wire.proofs.decoding.decode_full.Goals as goal
 pub returns-in_err-message : goal.returns-in_err-message
 returns-in_err-message c =
     let p = err_from_is_err_and c.from_residual.result c.from_residual.ensures.1 in
-    rw (p.1, p.2) (fails_first c.in_err-message.field-0.0 c.args.bytes.now c.in_err-message.ensures.spelled)
+    record { spelled = rw (p.1, p.2) (fails_first c.in_err-message.field-0.0 c.args.bytes.now c.in_err-message.ensures.spelled) }
