@@ -110,8 +110,11 @@ module _ (all : List Lexeme) where
   link_falls t i ls x bound l is = let one = one_link ls i x l in let same : weight x.operand ≡ weight ((get_or ls i x).operand) = ap (λ y. weight y.operand) is in omega (arith, bound, one, same)
 
   -- what stands in an expression
-  pub falls : (t : ℕ) (e v x w : Expression) → 8 * weight e ≡ t → e ≡ v → x ≡ w → weight w < weight v → 8 * weight x + 1 < t
-  falls t e v x w bound is same less = let whole : weight e ≡ weight v = ap weight is in let part : weight x ≡ weight w = ap weight same in omega (arith, bound, whole, part, less)
+  pub operand_falls : (t : ℕ) (e v x w : Expression) → 8 * weight e ≡ t → e ≡ v → x ≡ w → weight w < weight v → 8 * weight x + 1 < t
+  operand_falls t e v x w bound is same less = let whole : weight e ≡ weight v = ap weight is in let part : weight x ≡ weight w = ap weight same in omega (arith, bound, whole, part, less)
+
+  pub falls : (t : ℕ) (e v x w : Expression) → 8 * weight e ≡ t → e ≡ v → x ≡ w → weight w < weight v → 8 * weight x < t
+  falls t e v x w bound is same less = let here = operand_falls t e v x w bound is same less in omega (arith, here)
 
   pub suffixes_fall : (t : ℕ) (e v : Expression) (ss us : List Suffix) → 8 * weight e ≡ t → e ≡ v → ss ≡ us → suffixes_weight us < weight v → 8 * suffixes_weight ss + 4 < t
   suffixes_fall t e v ss us bound is same less =

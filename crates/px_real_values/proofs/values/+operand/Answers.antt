@@ -1,16 +1,19 @@
-use Rattle.std.proofs.Common.{◌≡◌, ◌≢◌, ◌∙◌, refl, sym, ap, map, length, None, arith}
+use Rattle.std.proofs.Common.{◌≡◌, ◌≢◌, ◌∙◌, refl, sym, ap, map, length, None, codes, arith}
 use Rattle.px_expressions.specs.Reading.{or_else}
 use Rattle.px_real_expressions.specs.ExpressionTree.{binary, expressions_of}
 use Rattle.px_real_reading.specs.Trees.{expression_tree, suffix_tree, link_tree, chained, suffixed, all_suffixed}
-use Rattle.px_real_reading.proofs.TreeEquations.{tree-Postfix, tree-Binary, suffix-Index, suffix-Call}
+use Rattle.px_real_symbols.specs.Symbols.{held_in}
+use Rattle.px_real_reading.proofs.TreeEquations.{tree-Parenthesised, tree-Postfix, tree-Prefixed, tree-Cast, tree-Binary, tree-Choice, tree-ChoiceOr, suffix-Index, suffix-Call}
 use Rattle.px_real_values.specs.Operands.{unless_stopped, parts, pointer_parts}
-use Rattle.px_real_values.specs.Operators.{valued_binary, dotted, arrowed, stopped_at, step_text}
+use Rattle.px_real_values.specs.Environment.{spelled}
+use Rattle.px_real_values.specs.Operators.{valued_binary, dotted, arrowed, stopped_at, step_text, prefixed, cast_as}
 use Rattle.px_real_values.specs.Calls.{call_of}
 use Rattle.px_real_values.specs.Values.{valued, indexed, is_zero, block_of_type, block_of}
 use Rattle.px_real_values.specs.Views.{operand_seen, given_seen}
 use Rattle.px_real_values.proofs.ArgumentLemmas.{given_of, given_more, given_end}
 use Rattle.px_real_values.proofs.CallLemmas.{block_alone, no_block}
 use Rattle.px_real_values.proofs.ChainLemmas.{along_begins, along_more, along_ends}
+use Rattle.px_real_values.proofs.FallLemmas.{falls, operand_falls, suffixes_fall, last_falls, links_fall, parenthesised_less, prefixed_less, measure_less, cast_less, choice_less, choice_or_less, assign_less, first_less, before_less, last_less, left_less, links_less, right_less, suffix_falls, link_falls, item_falls, index_falls, arguments_fall}
 use Rattle.px_real_values.proofs.OperandLemmas.{given_as}
 use Rattle.px_real_values.proofs.values.+operand.Goals as goal
 
@@ -141,3 +144,184 @@ suffix-returns-in-PointerMember g t c = λ e h.
     let env = g.E.Environment.sees c.args.environment.now in
     let all = g.E.Environment.tokens c.args.environment.now in
     given_as operand_seen c.pointed_member.result _ _ (ap (λ z. unless_stopped z (arrowed env c.in-PointerMember.site c.in-PointerMember.name)) h ∙ sym (ap (λ z. valued env (suffixed e (suffix_tree all z))) c.in-PointerMember.is)) c.pointed_member.ensures
+
+-- ---- what one kind of expression is
+
+pub evaluate-returns-in-Parenthesised : goal.evaluate-returns-in-Parenthesised
+evaluate-returns-in-Parenthesised g t c =
+    let env = g.E.Environment.sees c.args.environment.now in
+    let all = g.E.Environment.tokens c.args.environment.now in
+    let p = c.in-Parenthesised in
+    given_as operand_seen c.evaluate.result _ _
+    (ap (λ z. valued env (expression_tree all z)) c.deref.ensures ∙ ap (valued env) (sym (ap (expression_tree all) p.is ∙ tree-Parenthesised all p.site p.inner)))
+    c.evaluate.ensures
+
+pub evaluate-returns-in_ok-inner-in-Prefixed : goal.evaluate-returns-in_ok-inner-in-Prefixed
+evaluate-returns-in_ok-inner-in-Prefixed g t c =
+    let env = g.E.Environment.sees c.args.environment.now in
+    let all = g.E.Environment.tokens c.args.environment.now in
+    let p = c.in-Prefixed in
+    let inner : operand_seen c.in_ok-inner-in-Prefixed.inner ≡ valued env (expression_tree all p.inner.value) =
+    c.in_ok-inner-in-Prefixed.ensures ∙ ap (λ z. valued env (expression_tree all z)) c.deref-in-Prefixed.ensures in
+    given_as operand_seen c.prefixed.result _ _
+    (ap (prefixed env p.operator p.site) inner ∙ ap (valued env) (sym (ap (expression_tree all) p.is ∙ tree-Prefixed all p.operator p.site p.inner)))
+    c.prefixed.ensures
+
+pub evaluate-returns-in_ok-inner-in-Cast : goal.evaluate-returns-in_ok-inner-in-Cast
+evaluate-returns-in_ok-inner-in-Cast g t c =
+    let env = g.E.Environment.sees c.args.environment.now in
+    let all = g.E.Environment.tokens c.args.environment.now in
+    let p = c.in-Cast in
+    let inner : operand_seen c.in_ok-inner-in-Cast.inner ≡ valued env (expression_tree all p.inner.value) =
+    c.in_ok-inner-in-Cast.ensures ∙ ap (λ z. valued env (expression_tree all z)) c.deref-in-Cast.ensures in
+    given_as operand_seen c.cast.result _ _
+    (ap (λ z. unless_stopped z (cast_as env (spelled env (held_in all p.type_name)) p.site)) inner
+    ∙ ap (valued env) (sym (ap (expression_tree all) p.is ∙ tree-Cast all p.site p.type_name p.inner)))
+    c.cast.ensures
+
+pub evaluate-returns-in_ok-condition-in-Choice : goal.evaluate-returns-in_ok-condition-in-Choice
+evaluate-returns-in_ok-condition-in-Choice g t c =
+    let env = g.E.Environment.sees c.args.environment.now in
+    let all = g.E.Environment.tokens c.args.environment.now in
+    let p = c.in-Choice in
+    let condition : operand_seen c.in_ok-condition-in-Choice.condition ≡ valued env (expression_tree all p.condition.value) =
+    c.in_ok-condition-in-Choice.ensures ∙ ap (λ z. valued env (expression_tree all z)) c.deref-in-Choice.ensures in
+    given_as operand_seen c.chosen.result _ _
+    (ap (λ z. unless_stopped z (λ x. stopped_at env (codes "?") p.site (parts env x))) condition
+    ∙ ap (valued env) (sym (ap (expression_tree all) p.is ∙ tree-Choice all p.site p.condition p.chosen p.otherwise)))
+    c.chosen.ensures
+
+pub evaluate-returns-in_ok-condition-in-ChoiceOr : goal.evaluate-returns-in_ok-condition-in-ChoiceOr
+evaluate-returns-in_ok-condition-in-ChoiceOr g t c =
+    let env = g.E.Environment.sees c.args.environment.now in
+    let all = g.E.Environment.tokens c.args.environment.now in
+    let p = c.in-ChoiceOr in
+    let condition : operand_seen c.in_ok-condition-in-ChoiceOr.condition ≡ valued env (expression_tree all p.condition.value) =
+    c.in_ok-condition-in-ChoiceOr.ensures ∙ ap (λ z. valued env (expression_tree all z)) c.deref-in-ChoiceOr.ensures in
+    given_as operand_seen c.chosen-in-ChoiceOr.result _ _
+    (ap (λ z. unless_stopped z (λ x. stopped_at env (codes "?") p.site (parts env x))) condition
+    ∙ ap (valued env) (sym (ap (expression_tree all) p.is ∙ tree-ChoiceOr all p.site p.condition p.otherwise)))
+    c.chosen-in-ChoiceOr.ensures
+
+-- ---- what stands in an expression is smaller
+
+pub evaluate-evaluate-requires : goal.evaluate-evaluate-requires
+evaluate-evaluate-requires g t c κs within =
+    let all = g.E.Environment.tokens c.args.environment.now in
+    (falls all t c.args.expression.now _ c.deref.result.now _ c.decreases c.in-Parenthesised.is c.deref.ensures (parenthesised_less all c.in-Parenthesised.site c.in-Parenthesised.inner), (within.0, within.1))
+
+pub evaluate-evaluate-requires-in-Postfix : goal.evaluate-evaluate-requires-in-Postfix
+evaluate-evaluate-requires-in-Postfix g t c κs within =
+    let all = g.E.Environment.tokens c.args.environment.now in
+    (falls all t c.args.expression.now _ c.deref-in-Postfix.result.now _ c.decreases c.in-Postfix.is c.deref-in-Postfix.ensures (first_less all c.in-Postfix.first c.in-Postfix.before c.in-Postfix.last), (within.0, within.1))
+
+pub evaluate-suffixes-requires : goal.evaluate-suffixes-requires
+evaluate-suffixes-requires g t c κs within =
+    let all = g.E.Environment.tokens c.args.environment.now in
+    (suffixes_fall all t c.args.expression.now _ c.deref-in-Postfix-2.result.now _ c.decreases c.in-Postfix.is c.deref-in-Postfix-2.ensures.value (before_less all c.in-Postfix.first c.in-Postfix.before c.in-Postfix.last), (within.0, within.1))
+
+pub evaluate-suffix-requires : goal.evaluate-suffix-requires
+evaluate-suffix-requires g t c κs within =
+    let all = g.E.Environment.tokens c.args.environment.now in
+    (last_falls all t c.args.expression.now _ c.in-Postfix.last c.decreases c.in-Postfix.is (last_less all c.in-Postfix.first c.in-Postfix.before c.in-Postfix.last), (within.0, within.1))
+
+pub evaluate-evaluate-requires-in-Prefixed : goal.evaluate-evaluate-requires-in-Prefixed
+evaluate-evaluate-requires-in-Prefixed g t c κs within =
+    let all = g.E.Environment.tokens c.args.environment.now in
+    (falls all t c.args.expression.now _ c.deref-in-Prefixed.result.now _ c.decreases c.in-Prefixed.is c.deref-in-Prefixed.ensures (prefixed_less all c.in-Prefixed.operator c.in-Prefixed.site c.in-Prefixed.inner), (within.0, within.1))
+
+pub evaluate-evaluate-requires-in-Cast : goal.evaluate-evaluate-requires-in-Cast
+evaluate-evaluate-requires-in-Cast g t c κs within =
+    let all = g.E.Environment.tokens c.args.environment.now in
+    (falls all t c.args.expression.now _ c.deref-in-Cast.result.now _ c.decreases c.in-Cast.is c.deref-in-Cast.ensures (cast_less all c.in-Cast.site c.in-Cast.type_name c.in-Cast.inner), (within.0, within.1))
+
+pub evaluate-evaluate-requires-in-Binary : goal.evaluate-evaluate-requires-in-Binary
+evaluate-evaluate-requires-in-Binary g t c κs within =
+    let all = g.E.Environment.tokens c.args.environment.now in
+    (falls all t c.args.expression.now _ c.deref-in-Binary.result.now _ c.decreases c.in-Binary.is c.deref-in-Binary.ensures (left_less all c.in-Binary.first c.in-Binary.before c.in-Binary.operator c.in-Binary.site c.in-Binary.right), (within.0, within.1))
+
+pub evaluate-links-requires : goal.evaluate-links-requires
+evaluate-links-requires g t c κs within =
+    let all = g.E.Environment.tokens c.args.environment.now in
+    (links_fall all t c.args.expression.now _ c.deref-in-Binary-2.result.now _ c.decreases c.in-Binary.is c.deref-in-Binary-2.ensures.value (links_less all c.in-Binary.first c.in-Binary.before c.in-Binary.operator c.in-Binary.site c.in-Binary.right), (within.0, within.1))
+
+pub evaluate-linked-requires : goal.evaluate-linked-requires
+evaluate-linked-requires g t c κs within =
+    let all = g.E.Environment.tokens c.args.environment.now in
+    (operand_falls all t c.args.expression.now _ c.deref-in-Binary-3.result.now _ c.decreases c.in-Binary.is c.deref-in-Binary-3.ensures (right_less all c.in-Binary.first c.in-Binary.before c.in-Binary.operator c.in-Binary.site c.in-Binary.right), (within.0, within.1))
+
+pub evaluate-evaluate-requires-in-Choice : goal.evaluate-evaluate-requires-in-Choice
+evaluate-evaluate-requires-in-Choice g t c κs within =
+    let all = g.E.Environment.tokens c.args.environment.now in
+    (falls all t c.args.expression.now _ c.deref-in-Choice.result.now _ c.decreases c.in-Choice.is c.deref-in-Choice.ensures (choice_less all c.in-Choice.site c.in-Choice.condition c.in-Choice.chosen c.in-Choice.otherwise), (within.0, within.1))
+
+pub evaluate-evaluate-requires-in-ChoiceOr : goal.evaluate-evaluate-requires-in-ChoiceOr
+evaluate-evaluate-requires-in-ChoiceOr g t c κs within =
+    let all = g.E.Environment.tokens c.args.environment.now in
+    (falls all t c.args.expression.now _ c.deref-in-ChoiceOr.result.now _ c.decreases c.in-ChoiceOr.is c.deref-in-ChoiceOr.ensures (choice_or_less all c.in-ChoiceOr.site c.in-ChoiceOr.condition c.in-ChoiceOr.otherwise), (within.0, within.1))
+
+pub evaluate-evaluate-requires-in-Assign : goal.evaluate-evaluate-requires-in-Assign
+evaluate-evaluate-requires-in-Assign g t c κs within =
+    let all = g.E.Environment.tokens c.args.environment.now in
+    (falls all t c.args.expression.now _ c.deref-in-Assign.result.now _ c.decreases c.in-Assign.is c.deref-in-Assign.ensures (assign_less all c.in-Assign.operator c.in-Assign.site c.in-Assign.left c.in-Assign.right), (within.0, within.1))
+
+pub suffixes-suffix-requires : goal.suffixes-suffix-requires
+suffixes-suffix-requires g t c κs within =
+    let all = g.E.Environment.tokens c.args.environment.now in
+    (suffix_falls all t c.loop-i.i c.args.suffixes.now c.index-suffixes-i.result c.decreases c.loop-i-test.true c.index-suffixes-i.is, (within.0, within.1))
+
+pub suffix-element_at-requires : goal.suffix-element_at-requires
+suffix-element_at-requires g t c κs within =
+    let all = g.E.Environment.tokens c.args.environment.now in
+    (index_falls all t c.args.suffix.now c.in-Index.site c.in-Index.index c.deref.result.now c.decreases c.in-Index.is c.deref.ensures, (within.0, within.1))
+
+pub suffix-call-requires : goal.suffix-call-requires
+suffix-call-requires g t c κs within =
+    let all = g.E.Environment.tokens c.args.environment.now in
+    (arguments_fall all t c.args.suffix.now c.in-Call.site c.in-Call.arguments c.deref-in-Call.result.now c.decreases c.in-Call.is c.deref-in-Call.ensures.value, (within.0, within.1))
+
+pub element_at-evaluate-requires : goal.element_at-evaluate-requires
+element_at-evaluate-requires g t c κs within =
+    let all = g.E.Environment.tokens c.args.environment.now in
+    (omega (arith, c.decreases), (within.0, within.1))
+
+pub linked-evaluate-requires : goal.linked-evaluate-requires
+linked-evaluate-requires g t c κs within =
+    let all = g.E.Environment.tokens c.args.environment.now in
+    (omega (arith, c.decreases), (within.0, within.1))
+
+pub given-evaluate-requires : goal.given-evaluate-requires
+given-evaluate-requires g t c κs within =
+    let all = g.E.Environment.tokens c.args.environment.now in
+    (item_falls all t c.loop-i.i c.args.arguments.now c.index-arguments-i.result c.decreases c.loop-i-test.true c.index-arguments-i.is, (within.0, within.1))
+
+pub call-block_of-requires : goal.call-block_of-requires
+call-block_of-requires g t c κs within =
+    let all = g.E.Environment.tokens c.args.environment.now in
+    (omega (arith, c.decreases), (within.0, within.1))
+
+pub call-given-requires : goal.call-given-requires
+call-given-requires g t c κs within =
+    let all = g.E.Environment.tokens c.args.environment.now in
+    (omega (arith, c.decreases), (within.0, within.1))
+
+pub measured-measured-requires : goal.measured-measured-requires
+measured-measured-requires g t c κs within =
+    let all = g.E.Environment.tokens c.args.environment.now in
+    (falls all t c.args.expression.now _ c.deref.result.now _ c.decreases c.in-Parenthesised.is c.deref.ensures (parenthesised_less all c.in-Parenthesised.site c.in-Parenthesised.inner), (within.0, within.1))
+
+pub measured-evaluate-requires : goal.measured-evaluate-requires
+measured-evaluate-requires g t c κs within =
+    let all = g.E.Environment.tokens c.args.environment.now in
+    (falls all t c.args.expression.now _ c.deref-in-Measure.result.now _ c.decreases c.in-Measure.is c.deref-in-Measure.ensures (measure_less all c.in-Measure.measure c.in-Measure.site c.in-Measure.inner), (within.0, within.1))
+
+pub block_of-measured-requires : goal.block_of-measured-requires
+block_of-measured-requires g t c κs within =
+    let all = g.E.Environment.tokens c.args.environment.now in
+    (item_falls all t 0 c.args.arguments.now c.index-arguments-0.result c.decreases (omega arith) c.index-arguments-0.is, (within.0, within.1))
+
+pub links-linked-requires : goal.links-linked-requires
+links-linked-requires g t c κs within =
+    let all = g.E.Environment.tokens c.args.environment.now in
+    (link_falls all t c.loop-i.i c.args.links.now c.index-links-i.result c.decreases c.loop-i-test.true c.index-links-i.is, (within.0, within.1))
+
