@@ -510,7 +510,9 @@ fn measured<'a, E: Environment>(
             Measure::Alignment => Ok(None),
         },
         Expression::MeasureType {
-            measure, type_name, ..
+            measure,
+            type_name,
+            ..
         } => match measure {
             Measure::Size => {
                 let spelled = environment.spelled(alloc, *type_name)?;

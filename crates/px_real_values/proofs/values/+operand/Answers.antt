@@ -324,4 +324,3 @@ pub links-linked-requires : goal.links-linked-requires
 links-linked-requires g t c κs within =
     let all = g.E.Environment.tokens c.args.environment.now in
     (link_falls all t c.loop-i.i c.args.links.now c.index-links-i.result c.decreases c.loop-i-test.true c.index-links-i.is, (within.0, within.1))
-
