@@ -45,8 +45,8 @@ not_as_many (p ∷ ps) [] l = refl
 not_as_many (p ∷ ps) (x ∷ xs) l = not_as_many ps xs (λ e. l (ap suc e))
 
 pub as_tested : (b : Bool) (ps : List (Option ProfileType)) (xs : List Given) → (b ≡ true → length ps ≡ length xs) → (b ≡ false → length ps ≢ length xs) → b ≡ fits ps false xs
-as_tested true ps xs yes no = sym (as_many ps xs (yes refl))
-as_tested false ps xs yes no = sym (not_as_many ps xs (no refl))
+as_tested true ps xs many others = sym (as_many ps xs (many refl))
+as_tested false ps xs many others = sym (not_as_many ps xs (others refl))
 
 -- ---- of functions
 

@@ -13,7 +13,7 @@ pub returns-then-signature : goal.returns-then-signature
 returns-then-signature c xs l =
     let ps = c.args.signature.parameters.now in
     let most : length ps ≤ length xs = omega arith in
-    sym (ap (λ z. fits ps z xs) c.if-signature.true ∙ enough ps xs most)
+    c.if-signature.true ∙ sym (ap (λ z. fits ps z xs) c.if-signature.true ∙ enough ps xs most)
 
 pub returns-else-signature : goal.returns-else-signature
 returns-else-signature c xs l =

@@ -6,4 +6,4 @@ use Rattle.px_real_values.proofs.operand.last_cell.Goals as goal
 pub returns-in-Some : goal.returns-in-Some
 returns-in-Some c =
     let e = typed_expression c.args.pointer.value in
-    sym (cells-more e c.pop.new.self.items c.in-Some.last) ∙ ap (cells e) (sym c.in-Some.ensures.cases)
+    sym (cells-more e c.pop.new.self.items c.in-Some.last) ∙ ap (cells e) (sym c.in-Some.ensures.items)
