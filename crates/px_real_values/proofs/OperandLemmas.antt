@@ -1,5 +1,5 @@
 -- What is made of operands, by what the code tests of them.
-use Rattle.std.proofs.Common.{◌≡◌, ◌∙◌, refl, sym, ap, subst, Bool, true, false, ◌&&◌, ◌++◌, ◌∷◌, [], List, ℕ, Option, Some, None, Result, Ok, Err, is_some, IfOk, codes}
+use Rattle.std.proofs.Common.{◌≡◌, ◌≢◌, ◌∙◌, refl, sym, ap, subst, Bool, true, false, ◌&&◌, ◌++◌, ◌∷◌, [], List, ℕ, Option, Some, None, Result, Ok, Err, is_some, IfOk, codes}
 use Rattle.std.specs.Prelude.{if◌then◌else◌}
 use Rattle.px_base.specs.declared.trace.Site.{Site}
 use Rattle.px_expressions.specs.Reading.{or_else}
@@ -8,11 +8,13 @@ use Rattle.px_syntax.specs.declared.typed_expression.Relation.{Relation}
 use Rattle.px_syntax.specs.TypedTree as T
 use Rattle.px_syntax.specs.TypedTree.{Expression}
 use Rattle.px_real_expressions.specs.declared.operators.Operator.{Operator}
+use Rattle.px_real_expressions.specs.declared.operators.Prefix.{Prefix}
+use Rattle.px_real_expressions.specs.declared.operators.Prefix.TheVariants as P
 use Rattle.px_real_types.specs.declared.shape.ProfileType.{ProfileType}
 use Rattle.px_real_types.specs.Types.{int}
 use Rattle.px_real_values.specs.Environment.{Environment}
-use Rattle.px_real_values.specs.Operands.{Operand, of_type, a_test, parts, typed_as, needed, unwanted}
-use Rattle.px_real_values.specs.Operators.{operator_text, outside_of, stopped_at, typed_both, computed, divided, compared, negated}
+use Rattle.px_real_values.specs.Operands.{Operand, of_type, a_test, parts, typed_as, needed, unwanted, unless_stopped}
+use Rattle.px_real_values.specs.Operators.{operator_text, outside_of, stopped_at, typed_both, computed, divided, compared, negated, taking, prefixed}
 
 -- what is given is also that
 pub given_as : {A B E : Type 0} (see : A → B) (r : Result A E) (x y : B) → x ≡ y → IfOk r (λ a. see a ≡ x) → IfOk r (λ a. see a ≡ y)
@@ -77,3 +79,17 @@ module _ (env : Environment) (site : Site) (a : Operand) where
 
   pub negated_other : is_some (typed_as env int a) ≡ false → outside_of env (codes "-") site (parts env a) ≡ negated env site a
   negated_other h = sym (no_value (typed_as env int a) (λ x. of_type int site (T.negated x)) (outside_of env (codes "-") site (parts env a)) h)
+
+-- most operators before an operand take its value
+pub prefixed_else : (env : Environment) (p : Prefix) (site : Site) (a : Operand) → p ≢ P.Address → p ≢ P.Increment → p ≢ P.Decrement → p ≢ P.Extension → unless_stopped a (taking env p site) ≡ prefixed env p site a
+prefixed_else env P.Address site a no_address no_increment no_decrement no_extension = absurd (no_address refl)
+prefixed_else env P.Indirection site a no_address no_increment no_decrement no_extension = refl
+prefixed_else env P.Plus site a no_address no_increment no_decrement no_extension = refl
+prefixed_else env P.Minus site a no_address no_increment no_decrement no_extension = refl
+prefixed_else env P.Complement site a no_address no_increment no_decrement no_extension = refl
+prefixed_else env P.Not site a no_address no_increment no_decrement no_extension = refl
+prefixed_else env P.Increment site a no_address no_increment no_decrement no_extension = absurd (no_increment refl)
+prefixed_else env P.Decrement site a no_address no_increment no_decrement no_extension = absurd (no_decrement refl)
+prefixed_else env P.Extension site a no_address no_increment no_decrement no_extension = absurd (no_extension refl)
+prefixed_else env P.Real site a no_address no_increment no_decrement no_extension = refl
+prefixed_else env P.Imaginary site a no_address no_increment no_decrement no_extension = refl
