@@ -208,119 +208,119 @@ evaluate-returns-in_ok-condition-in-ChoiceOr g t c =
 pub evaluate-evaluate-requires : goal.evaluate-evaluate-requires
 evaluate-evaluate-requires g t c κs within =
     let all = g.E.Environment.tokens c.args.environment.now in
-    (falls all t c.args.expression.now _ c.deref.result.now _ c.decreases c.in-Parenthesised.is c.deref.ensures (parenthesised_less all c.in-Parenthesised.site c.in-Parenthesised.inner), (within.0, within.1))
+    (falls all t c.args.expression.now _ c.deref.result.now _ c.decreases c.in-Parenthesised.is c.deref.ensures (parenthesised_less all c.in-Parenthesised.site c.in-Parenthesised.inner), within)
 
 pub evaluate-evaluate-requires-in-Postfix : goal.evaluate-evaluate-requires-in-Postfix
 evaluate-evaluate-requires-in-Postfix g t c κs within =
     let all = g.E.Environment.tokens c.args.environment.now in
-    (falls all t c.args.expression.now _ c.deref-in-Postfix.result.now _ c.decreases c.in-Postfix.is c.deref-in-Postfix.ensures (first_less all c.in-Postfix.first c.in-Postfix.before c.in-Postfix.last), (within.0, within.1))
+    (falls all t c.args.expression.now _ c.deref-in-Postfix.result.now _ c.decreases c.in-Postfix.is c.deref-in-Postfix.ensures (first_less all c.in-Postfix.first c.in-Postfix.before c.in-Postfix.last), within)
 
 pub evaluate-suffixes-requires : goal.evaluate-suffixes-requires
 evaluate-suffixes-requires g t c κs within =
     let all = g.E.Environment.tokens c.args.environment.now in
-    (suffixes_fall all t c.args.expression.now _ c.deref-in-Postfix-2.result.now _ c.decreases c.in-Postfix.is c.deref-in-Postfix-2.ensures.value (before_less all c.in-Postfix.first c.in-Postfix.before c.in-Postfix.last), (within.0, within.1))
+    (suffixes_fall all t c.args.expression.now _ c.deref-in-Postfix-2.result.now _ c.decreases c.in-Postfix.is c.deref-in-Postfix-2.ensures.value (before_less all c.in-Postfix.first c.in-Postfix.before c.in-Postfix.last), within)
 
 pub evaluate-suffix-requires : goal.evaluate-suffix-requires
 evaluate-suffix-requires g t c κs within =
     let all = g.E.Environment.tokens c.args.environment.now in
-    (last_falls all t c.args.expression.now _ c.in-Postfix.last c.decreases c.in-Postfix.is (last_less all c.in-Postfix.first c.in-Postfix.before c.in-Postfix.last), (within.0, within.1))
+    (last_falls all t c.args.expression.now _ c.in-Postfix.last c.decreases c.in-Postfix.is (last_less all c.in-Postfix.first c.in-Postfix.before c.in-Postfix.last), within)
 
 pub evaluate-evaluate-requires-in-Prefixed : goal.evaluate-evaluate-requires-in-Prefixed
 evaluate-evaluate-requires-in-Prefixed g t c κs within =
     let all = g.E.Environment.tokens c.args.environment.now in
-    (falls all t c.args.expression.now _ c.deref-in-Prefixed.result.now _ c.decreases c.in-Prefixed.is c.deref-in-Prefixed.ensures (prefixed_less all c.in-Prefixed.operator c.in-Prefixed.site c.in-Prefixed.inner), (within.0, within.1))
+    (falls all t c.args.expression.now _ c.deref-in-Prefixed.result.now _ c.decreases c.in-Prefixed.is c.deref-in-Prefixed.ensures (prefixed_less all c.in-Prefixed.operator c.in-Prefixed.site c.in-Prefixed.inner), within)
 
 pub evaluate-evaluate-requires-in-Cast : goal.evaluate-evaluate-requires-in-Cast
 evaluate-evaluate-requires-in-Cast g t c κs within =
     let all = g.E.Environment.tokens c.args.environment.now in
-    (falls all t c.args.expression.now _ c.deref-in-Cast.result.now _ c.decreases c.in-Cast.is c.deref-in-Cast.ensures (cast_less all c.in-Cast.site c.in-Cast.type_name c.in-Cast.inner), (within.0, within.1))
+    (falls all t c.args.expression.now _ c.deref-in-Cast.result.now _ c.decreases c.in-Cast.is c.deref-in-Cast.ensures (cast_less all c.in-Cast.site c.in-Cast.type_name c.in-Cast.inner), within)
 
 pub evaluate-evaluate-requires-in-Binary : goal.evaluate-evaluate-requires-in-Binary
 evaluate-evaluate-requires-in-Binary g t c κs within =
     let all = g.E.Environment.tokens c.args.environment.now in
-    (falls all t c.args.expression.now _ c.deref-in-Binary.result.now _ c.decreases c.in-Binary.is c.deref-in-Binary.ensures (left_less all c.in-Binary.first c.in-Binary.before c.in-Binary.operator c.in-Binary.site c.in-Binary.right), (within.0, within.1))
+    (falls all t c.args.expression.now _ c.deref-in-Binary.result.now _ c.decreases c.in-Binary.is c.deref-in-Binary.ensures (left_less all c.in-Binary.first c.in-Binary.before c.in-Binary.operator c.in-Binary.site c.in-Binary.right), within)
 
 pub evaluate-links-requires : goal.evaluate-links-requires
 evaluate-links-requires g t c κs within =
     let all = g.E.Environment.tokens c.args.environment.now in
-    (links_fall all t c.args.expression.now _ c.deref-in-Binary-2.result.now _ c.decreases c.in-Binary.is c.deref-in-Binary-2.ensures.value (links_less all c.in-Binary.first c.in-Binary.before c.in-Binary.operator c.in-Binary.site c.in-Binary.right), (within.0, within.1))
+    (links_fall all t c.args.expression.now _ c.deref-in-Binary-2.result.now _ c.decreases c.in-Binary.is c.deref-in-Binary-2.ensures.value (links_less all c.in-Binary.first c.in-Binary.before c.in-Binary.operator c.in-Binary.site c.in-Binary.right), within)
 
 pub evaluate-linked-requires : goal.evaluate-linked-requires
 evaluate-linked-requires g t c κs within =
     let all = g.E.Environment.tokens c.args.environment.now in
-    (operand_falls all t c.args.expression.now _ c.deref-in-Binary-3.result.now _ c.decreases c.in-Binary.is c.deref-in-Binary-3.ensures (right_less all c.in-Binary.first c.in-Binary.before c.in-Binary.operator c.in-Binary.site c.in-Binary.right), (within.0, within.1))
+    (operand_falls all t c.args.expression.now _ c.deref-in-Binary-3.result.now _ c.decreases c.in-Binary.is c.deref-in-Binary-3.ensures (right_less all c.in-Binary.first c.in-Binary.before c.in-Binary.operator c.in-Binary.site c.in-Binary.right), within)
 
 pub evaluate-evaluate-requires-in-Choice : goal.evaluate-evaluate-requires-in-Choice
 evaluate-evaluate-requires-in-Choice g t c κs within =
     let all = g.E.Environment.tokens c.args.environment.now in
-    (falls all t c.args.expression.now _ c.deref-in-Choice.result.now _ c.decreases c.in-Choice.is c.deref-in-Choice.ensures (choice_less all c.in-Choice.site c.in-Choice.condition c.in-Choice.chosen c.in-Choice.otherwise), (within.0, within.1))
+    (falls all t c.args.expression.now _ c.deref-in-Choice.result.now _ c.decreases c.in-Choice.is c.deref-in-Choice.ensures (choice_less all c.in-Choice.site c.in-Choice.condition c.in-Choice.chosen c.in-Choice.otherwise), within)
 
 pub evaluate-evaluate-requires-in-ChoiceOr : goal.evaluate-evaluate-requires-in-ChoiceOr
 evaluate-evaluate-requires-in-ChoiceOr g t c κs within =
     let all = g.E.Environment.tokens c.args.environment.now in
-    (falls all t c.args.expression.now _ c.deref-in-ChoiceOr.result.now _ c.decreases c.in-ChoiceOr.is c.deref-in-ChoiceOr.ensures (choice_or_less all c.in-ChoiceOr.site c.in-ChoiceOr.condition c.in-ChoiceOr.otherwise), (within.0, within.1))
+    (falls all t c.args.expression.now _ c.deref-in-ChoiceOr.result.now _ c.decreases c.in-ChoiceOr.is c.deref-in-ChoiceOr.ensures (choice_or_less all c.in-ChoiceOr.site c.in-ChoiceOr.condition c.in-ChoiceOr.otherwise), within)
 
 pub evaluate-evaluate-requires-in-Assign : goal.evaluate-evaluate-requires-in-Assign
 evaluate-evaluate-requires-in-Assign g t c κs within =
     let all = g.E.Environment.tokens c.args.environment.now in
-    (falls all t c.args.expression.now _ c.deref-in-Assign.result.now _ c.decreases c.in-Assign.is c.deref-in-Assign.ensures (assign_less all c.in-Assign.operator c.in-Assign.site c.in-Assign.left c.in-Assign.right), (within.0, within.1))
+    (falls all t c.args.expression.now _ c.deref-in-Assign.result.now _ c.decreases c.in-Assign.is c.deref-in-Assign.ensures (assign_less all c.in-Assign.operator c.in-Assign.site c.in-Assign.left c.in-Assign.right), within)
 
 pub suffixes-suffix-requires : goal.suffixes-suffix-requires
 suffixes-suffix-requires g t c κs within =
     let all = g.E.Environment.tokens c.args.environment.now in
-    (suffix_falls all t c.loop-i.i c.args.suffixes.now c.index-suffixes-i.result c.decreases c.loop-i-test.true c.index-suffixes-i.is, (within.0, within.1))
+    (suffix_falls all t c.loop-i.i c.args.suffixes.now c.index-suffixes-i.result c.decreases c.loop-i-test.true c.index-suffixes-i.is, within)
 
 pub suffix-element_at-requires : goal.suffix-element_at-requires
 suffix-element_at-requires g t c κs within =
     let all = g.E.Environment.tokens c.args.environment.now in
-    (index_falls all t c.args.suffix.now c.in-Index.site c.in-Index.index c.deref.result.now c.decreases c.in-Index.is c.deref.ensures, (within.0, within.1))
+    (index_falls all t c.args.suffix.now c.in-Index.site c.in-Index.index c.deref.result.now c.decreases c.in-Index.is c.deref.ensures, within)
 
 pub suffix-call-requires : goal.suffix-call-requires
 suffix-call-requires g t c κs within =
     let all = g.E.Environment.tokens c.args.environment.now in
-    (arguments_fall all t c.args.suffix.now c.in-Call.site c.in-Call.arguments c.deref-in-Call.result.now c.decreases c.in-Call.is c.deref-in-Call.ensures.value, (within.0, within.1))
+    (arguments_fall all t c.args.suffix.now c.in-Call.site c.in-Call.arguments c.deref-in-Call.result.now c.decreases c.in-Call.is c.deref-in-Call.ensures.value, within)
 
 pub element_at-evaluate-requires : goal.element_at-evaluate-requires
 element_at-evaluate-requires g t c κs within =
     let all = g.E.Environment.tokens c.args.environment.now in
-    (omega (arith, c.decreases), (within.0, within.1))
+    (omega (arith, c.decreases), within)
 
 pub linked-evaluate-requires : goal.linked-evaluate-requires
 linked-evaluate-requires g t c κs within =
     let all = g.E.Environment.tokens c.args.environment.now in
-    (omega (arith, c.decreases), (within.0, within.1))
+    (omega (arith, c.decreases), within)
 
 pub given-evaluate-requires : goal.given-evaluate-requires
 given-evaluate-requires g t c κs within =
     let all = g.E.Environment.tokens c.args.environment.now in
-    (item_falls all t c.loop-i.i c.args.arguments.now c.index-arguments-i.result c.decreases c.loop-i-test.true c.index-arguments-i.is, (within.0, within.1))
+    (item_falls all t c.loop-i.i c.args.arguments.now c.index-arguments-i.result c.decreases c.loop-i-test.true c.index-arguments-i.is, within)
 
 pub call-block_of-requires : goal.call-block_of-requires
 call-block_of-requires g t c κs within =
     let all = g.E.Environment.tokens c.args.environment.now in
-    (omega (arith, c.decreases), (within.0, within.1))
+    (omega (arith, c.decreases), within)
 
 pub call-given-requires : goal.call-given-requires
 call-given-requires g t c κs within =
     let all = g.E.Environment.tokens c.args.environment.now in
-    (omega (arith, c.decreases), (within.0, within.1))
+    (omega (arith, c.decreases), within)
 
 pub measured-measured-requires : goal.measured-measured-requires
 measured-measured-requires g t c κs within =
     let all = g.E.Environment.tokens c.args.environment.now in
-    (falls all t c.args.expression.now _ c.deref.result.now _ c.decreases c.in-Parenthesised.is c.deref.ensures (parenthesised_less all c.in-Parenthesised.site c.in-Parenthesised.inner), (within.0, within.1))
+    (falls all t c.args.expression.now _ c.deref.result.now _ c.decreases c.in-Parenthesised.is c.deref.ensures (parenthesised_less all c.in-Parenthesised.site c.in-Parenthesised.inner), within)
 
 pub measured-evaluate-requires : goal.measured-evaluate-requires
 measured-evaluate-requires g t c κs within =
     let all = g.E.Environment.tokens c.args.environment.now in
-    (falls all t c.args.expression.now _ c.deref-in-Measure.result.now _ c.decreases c.in-Measure.is c.deref-in-Measure.ensures (measure_less all c.in-Measure.measure c.in-Measure.site c.in-Measure.inner), (within.0, within.1))
+    (falls all t c.args.expression.now _ c.deref-in-Measure.result.now _ c.decreases c.in-Measure.is c.deref-in-Measure.ensures (measure_less all c.in-Measure.measure c.in-Measure.site c.in-Measure.inner), within)
 
 pub block_of-measured-requires : goal.block_of-measured-requires
 block_of-measured-requires g t c κs within =
     let all = g.E.Environment.tokens c.args.environment.now in
-    (item_falls all t 0 c.args.arguments.now c.index-arguments-0.result c.decreases (omega arith) c.index-arguments-0.is, (within.0, within.1))
+    (item_falls all t 0 c.args.arguments.now c.index-arguments-0.result c.decreases (omega arith) c.index-arguments-0.is, within)
 
 pub links-linked-requires : goal.links-linked-requires
 links-linked-requires g t c κs within =
     let all = g.E.Environment.tokens c.args.environment.now in
-    (link_falls all t c.loop-i.i c.args.links.now c.index-links-i.result c.decreases c.loop-i-test.true c.index-links-i.is, (within.0, within.1))
+    (link_falls all t c.loop-i.i c.args.links.now c.index-links-i.result c.decreases c.loop-i-test.true c.index-links-i.is, within)
