@@ -1,4 +1,4 @@
-use Rattle.std.proofs.Common.{◌≡◌, ◌≢◌, ◌∙◌, refl, sym, ap, map, length, None, codes, arith}
+use Rattle.std.proofs.Common.{◌≡◌, ◌≢◌, ◌∙◌, refl, sym, ap, map, length, None, codes, arith, inl, inr}
 use Rattle.px_expressions.specs.Reading.{or_else}
 use Rattle.px_real_expressions.specs.ExpressionTree.{binary, expressions_of}
 use Rattle.px_real_reading.specs.Trees.{expression_tree, suffix_tree, link_tree, chained, suffixed, all_suffixed}
@@ -186,22 +186,11 @@ evaluate-returns-in_ok-condition-in-Choice g t c =
     let p = c.in-Choice in
     let condition : operand_seen c.in_ok-condition-in-Choice.condition ≡ valued env (expression_tree all p.condition.value) =
     c.in_ok-condition-in-Choice.ensures ∙ ap (λ z. valued env (expression_tree all z)) c.deref-in-Choice.ensures in
-    given_as operand_seen c.chosen.result _ _
-    (ap (λ z. unless_stopped z (λ x. stopped_at env (codes "?") p.site (parts env x))) condition
-    ∙ ap (valued env) (sym (ap (expression_tree all) p.is ∙ tree-Choice all p.site p.condition p.chosen p.otherwise)))
-    c.chosen.ensures
-
-pub evaluate-returns-in_ok-condition-in-ChoiceOr : goal.evaluate-returns-in_ok-condition-in-ChoiceOr
-evaluate-returns-in_ok-condition-in-ChoiceOr g t c =
-    let env = g.E.Environment.sees c.args.environment.now in
-    let all = g.E.Environment.tokens c.args.environment.now in
-    let p = c.in-ChoiceOr in
-    let condition : operand_seen c.in_ok-condition-in-ChoiceOr.condition ≡ valued env (expression_tree all p.condition.value) =
-    c.in_ok-condition-in-ChoiceOr.ensures ∙ ap (λ z. valued env (expression_tree all z)) c.deref-in-ChoiceOr.ensures in
-    given_as operand_seen c.chosen-in-ChoiceOr.result _ _
-    (ap (λ z. unless_stopped z (λ x. stopped_at env (codes "?") p.site (parts env x))) condition
-    ∙ ap (valued env) (sym (ap (expression_tree all) p.is ∙ tree-ChoiceOr all p.site p.condition p.otherwise)))
-    c.chosen-in-ChoiceOr.ensures
+    let stops = ap (λ z. unless_stopped z (λ x. stopped_at env (codes "?") p.site (parts env x))) condition in
+    elim p.is [
+      | inl (chosen, otherwise, e) ↦ given_as operand_seen c.chosen.result _ _ (stops ∙ ap (valued env) (sym (ap (expression_tree all) e ∙ tree-Choice all p.site p.condition chosen otherwise))) c.chosen.ensures
+      | inr (otherwise, e) ↦ given_as operand_seen c.chosen.result _ _ (stops ∙ ap (valued env) (sym (ap (expression_tree all) e ∙ tree-ChoiceOr all p.site p.condition otherwise))) c.chosen.ensures
+    ]
 
 -- ---- what stands in an expression is smaller
 
@@ -253,12 +242,11 @@ evaluate-linked-requires g t c κs within =
 pub evaluate-evaluate-requires-in-Choice : goal.evaluate-evaluate-requires-in-Choice
 evaluate-evaluate-requires-in-Choice g t c κs within =
     let all = g.E.Environment.tokens c.args.environment.now in
-    (falls all t c.args.expression.now _ c.deref-in-Choice.result.now _ c.decreases c.in-Choice.is c.deref-in-Choice.ensures (choice_less all c.in-Choice.site c.in-Choice.condition c.in-Choice.chosen c.in-Choice.otherwise), within)
-
-pub evaluate-evaluate-requires-in-ChoiceOr : goal.evaluate-evaluate-requires-in-ChoiceOr
-evaluate-evaluate-requires-in-ChoiceOr g t c κs within =
-    let all = g.E.Environment.tokens c.args.environment.now in
-    (falls all t c.args.expression.now _ c.deref-in-ChoiceOr.result.now _ c.decreases c.in-ChoiceOr.is c.deref-in-ChoiceOr.ensures (choice_or_less all c.in-ChoiceOr.site c.in-ChoiceOr.condition c.in-ChoiceOr.otherwise), within)
+    let p = c.in-Choice in
+    (elim p.is [
+      | inl (chosen, otherwise, e) ↦ falls all t c.args.expression.now _ c.deref-in-Choice.result.now _ c.decreases e c.deref-in-Choice.ensures (choice_less all p.site p.condition chosen otherwise)
+      | inr (otherwise, e) ↦ falls all t c.args.expression.now _ c.deref-in-Choice.result.now _ c.decreases e c.deref-in-Choice.ensures (choice_or_less all p.site p.condition otherwise)
+    ], within)
 
 pub evaluate-evaluate-requires-in-Assign : goal.evaluate-evaluate-requires-in-Assign
 evaluate-evaluate-requires-in-Assign g t c κs within =
@@ -313,7 +301,7 @@ measured-measured-requires g t c κs within =
 pub measured-evaluate-requires : goal.measured-evaluate-requires
 measured-evaluate-requires g t c κs within =
     let all = g.E.Environment.tokens c.args.environment.now in
-    (falls all t c.args.expression.now _ c.deref-in-Measure.result.now _ c.decreases c.in-Measure.is c.deref-in-Measure.ensures (measure_less all c.in-Measure.measure c.in-Measure.site c.in-Measure.inner), within)
+    (falls all t c.args.expression.now _ c.deref-in-Size.result.now _ c.decreases c.in-Measure.is c.deref-in-Size.ensures (measure_less all c.in-Measure.measure c.in-Measure.site c.in-Measure.inner), within)
 
 pub block_of-measured-requires : goal.block_of-measured-requires
 block_of-measured-requires g t c κs within =
