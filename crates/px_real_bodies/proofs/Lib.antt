@@ -1,1 +1,9 @@
+pub mod TabledLemmas
+pub mod HeldLemmas
+pub mod SpelledLemmas
+pub mod ListLemmas
+pub mod LengthLemmas
+pub mod StorageLemmas
+pub mod DeclarationLemmas
+pub mod WalkLemmas
 pub mod WorkedByReading

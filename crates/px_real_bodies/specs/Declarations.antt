@@ -1,5 +1,5 @@
 -- What declarations in bodies do (6.7): what they bring into scope, and what their initialisers evaluate.
-use Rattle.std.specs.Prelude.{ℕ, List, [], ◌∷◌, ◌++◌, length, Bool, true, false, ◌&&◌, ◌||◌, not, Option, Some, None, codes, if◌then◌else◌}
+use Rattle.std.specs.Prelude.{ℕ, List, [], ◌∷◌, ◌++◌, Bool, true, false, ◌&&◌, ◌||◌, not, Option, Some, None, codes, if◌then◌else◌}
 use Rattle.px_base.specs.declared.trace.Site.{Site}
 use Rattle.px_syntax.specs.TypedTree as T
 use Rattle.px_syntax.specs.TypedTree.{Expression, Statement}
@@ -9,18 +9,18 @@ use Rattle.px_real_expressions.specs.Lexemes.{Lexeme}
 use Rattle.px_real_expressions.specs.ExpressionTree.{ExpressionTree, name, constant, parenthesised, form, prefixed, measure, measure_type, cast, binary, choice}
 use Rattle.px_real_declarations.specs.DeclarationTree.{SpecifierTree, keyword, GroupTree, group, DeclaratorTree, no_name, a_name, inner, pointer, array, function, DeclaredTree, DeclarationTree, declaration, assertion}
 use Rattle.px_real_declarations.specs.Names.{declared_name, is_typedef}
+use Rattle.px_real_declaring.specs.Items.{nesting_limit}
 use Rattle.px_real_types.specs.declared.shape.ProfileType.{ProfileType}
 use Rattle.px_real_types.specs.Shapes.{in_profile}
 use Rattle.px_real_types.specs.declared.known.Known.{Known}
 use Rattle.px_real_values.specs.Environment.{Environment, Meaning, enumerator}
-use Rattle.px_real_values.specs.Operands.{stop, needed}
-use Rattle.px_real_values.specs.Values.{first_site, valued}
+use Rattle.px_real_values.specs.Operands.{stop}
 use Rattle.px_real_scopes.specs.Scopes.{Scopes, MeaningTree, a_type, an_object, a_function}
 use Rattle.px_real_scopes.specs.Lookups.{seen}
 use Rattle.px_real_scopes.specs.Knowing.{type_word, specified_known}
 use Rattle.px_real_scopes.specs.Entering.{with_specifiers}
 use Rattle.px_real_scopes.specs.Behind.{with_name, declared_meaning, declares_none}
-use Rattle.px_real_effects.specs.Effects.{evaluated}
+use Rattle.px_real_effects.specs.Effects.{evaluated, argument_of, initialised}
 use Rattle.px_real_bodies.specs.Places.{Function, Place, in_scopes, with_one_local, Walk, without_statements}
 use Rattle.px_real_bodies.specs.Phrases.{expression_in, no_place}
 use Rattle.px_real_bodies.specs.Values.{env, separated, listed, unread_at, initialiser_parts}
@@ -86,6 +86,21 @@ module _ (env : Environment) where
   is_constant (choice site c a b) = is_constant c && (is_constant a && is_constant b)
   is_constant _ = false
 
+-- ---- what a local begins with
+
+-- the one item, which a comma may follow
+abbrev pub only_of : List (List Lexeme) → List Lexeme
+only_of (x ∷ []) = x
+only_of (x ∷ [] ∷ []) = x
+only_of _ = []
+
+abbrev pub only_item : List Lexeme → List Lexeme
+only_item between = only_of (separated 0 between)
+
+-- a value in braces is the one item (6.7.9, 11)
+abbrev pub unbraced : List Lexeme → List Lexeme
+unbraced ts = or_else (listed ts) only_item ts
+
 module _ (f : Function) where
   abbrev pub is_length : Scopes → List Lexeme → Bool
   is_length st [] = true
@@ -113,30 +128,20 @@ module _ (f : Function) where
   is_automatic ss (an_object k word) = not (is_stored ss)
   is_automatic ss _ = false
 
-  -- a value in braces is the one item (6.7.9, 11)
-  abbrev pub unbraced : List Lexeme → List Lexeme
-  unbraced ts = or_else (listed ts) only_item ts
-    where
-      only_of : List (List Lexeme) → List Lexeme
-      only_of (x ∷ []) = x
-      only_of (x ∷ [] ∷ []) = x
-      only_of _ = []
-      only_item : List Lexeme → List Lexeme
-      only_item between = only_of (separated 0 between)
-
-  abbrev pub begun_with : Scopes → ProfileType → Option (List Lexeme) → Option Expression
-  begun_with st t None = None
-  begun_with st t (Some ts) =
-      Some (or_else (expression_in st (unbraced ts)) (λ e. needed (env f st) (first_site e) t (valued (env f st) e)) (unread_at f st no_place ts))
+  -- the declaration of a local, with what it begins with
+  abbrev pub begun : Scopes → ℕ → ProfileType → Option (List Lexeme) → Statement
+  begun st n t None = initialised (env f st) n t None
+  begun st n t (Some ts) =
+      or_else (expression_in st (unbraced ts)) (λ e. initialised (env f st) n t (Some (argument_of (env f st) e))) (T.declare n (Some (unread_at f st no_place ts)))
 
   abbrev pub parts_if : Bool → Scopes → Option (List Lexeme) → List Expression
-  parts_if true st (Some ts) = initialiser_parts f st (length ts) no_place ts
+  parts_if true st (Some ts) = initialiser_parts f st nesting_limit no_place ts
   parts_if automatic st value = []
 
   -- a local, in scope in its own initialiser (6.2.1)
   abbrev pub with_local_of : Place → List ℕ → ProfileType → Option (List Lexeme) → Walk
   with_local_of at text t value =
-      let after = with_one_local (env f at.scopes) text t at in record { trees = T.declare at.next (begun_with after.scopes t value) ∷ []; after = after }
+      let after = with_one_local (env f at.scopes) text t at in record { trees = begun after.scopes at.next t value ∷ []; after = after }
 
   abbrev pub with_other : Place → List SpecifierTree → List ℕ → MeaningTree → Option (List Lexeme) → Walk
   with_other at ss text m value =

@@ -4,4 +4,5 @@ pub mod Phrases
 pub mod Values
 pub mod Declarations
 pub mod Statements
+pub mod Views
 pub mod WorkedBodies

@@ -8,6 +8,8 @@ use Rattle.px_real_expressions.specs.declared.terminal.Terminal.TheVariants as T
 use Rattle.px_real_expressions.specs.Lexemes.{Lexeme}
 use Rattle.px_real_expressions.specs.ExpressionTree.{ExpressionTree}
 use Rattle.px_real_expressions.specs.Reading.{expression_at}
+use Rattle.px_real_reading.specs.declared.reading.ExpressionFault.{ExpressionFault}
+use Rattle.px_real_reading.specs.declared.reading.ExpressionFault.TheVariants as E
 use Rattle.px_real_declarations.specs.Roles.{assembler_words}
 use Rattle.px_real_declarations.specs.Grammar.{Types}
 use Rattle.px_real_declarations.specs.DeclarationTree.{SpecifierTree, keyword, type_name, group, tagged, DeclarationTree, declaration, assertion}
@@ -27,8 +29,11 @@ named_by types t k = k
 abbrev pub tabled : Types → Lexeme → Lexeme
 tabled types t = record t { terminal = named_by types t t.terminal }
 
+abbrev pub all_tabled : Scopes → List Lexeme → List Lexeme
+all_tabled st ts = map (tabled (are_types st.bindings)) ts
+
 abbrev pub expression_in : Scopes → List Lexeme → Option ExpressionTree
-expression_in st ts = as_whole (expression_at nesting_limit (map (tabled (are_types st.bindings)) ts))
+expression_in st ts = as_whole (expression_at nesting_limit (all_tabled st ts))
 
 -- ---- a declaration or an expression
 
@@ -62,3 +67,9 @@ first_place site (t ∷ ts) = t.site
 -- where no token tells
 abbrev pub no_place : Site
 no_place = record { file = 0; line = 0; column = 0 }
+
+-- what keeps the code from an answer
+abbrev pub is_out_of_memory : ExpressionFault → Bool
+is_out_of_memory E.NoMemory = true
+is_out_of_memory (E.NotAnExpression at) = false
+is_out_of_memory (E.Deep at) = false

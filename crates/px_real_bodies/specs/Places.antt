@@ -1,5 +1,5 @@
 -- What a place in a function's body sees.
-use Rattle.std.specs.Prelude.{ℕ, ◌+◌, List, [], ◌∷◌, ◌++◌, Bool, Option}
+use Rattle.std.specs.Prelude.{◌≡◌, ℕ, ◌+◌, List, [], ◌∷◌, ◌++◌, Bool, Option}
 use Rattle.px_terms.specs.declared.types.ValueType.{ValueType}
 use Rattle.px_syntax.specs.TypedTree.{Statement}
 use Rattle.px_real_types.specs.declared.shape.ProfileType.{ProfileType}
@@ -45,3 +45,11 @@ pub record Walk : Type 0 where
 
 abbrev pub without_statements : Place → Walk
 without_statements at = record { trees = []; after = at }
+
+-- behind these statements
+abbrev pub behind : List Statement → Walk → Walk
+behind before w = record { trees = before ++ w.trees; after = w.after }
+
+-- with this walked behind those statements there are these, and this is the place behind them
+abbrev pub Walked : Walk → List Statement → List Statement → Place → Type 0
+Walked w before trees at = record { trees = trees; after = at } ≡ behind before w

@@ -1,5 +1,5 @@
 -- What the statements of a body do, one case for each kind (6.8).
-use Rattle.std.specs.Prelude.{ℕ, List, [], ◌∷◌, ◌++◌, Bool, true, false, ◌&&◌, ◌||◌, not, Option, Some, None, codes, if◌then◌else◌}
+use Rattle.std.specs.Prelude.{◌≡◌, ℕ, List, [], ◌∷◌, ◌++◌, Bool, true, false, ◌&&◌, ◌||◌, not, Option, Some, None, codes, if◌then◌else◌}
 use Rattle.px_base.specs.declared.trace.Site.{Site}
 use Rattle.px_syntax.specs.TypedTree as T
 use Rattle.px_syntax.specs.TypedTree.{Expression, Statement}
@@ -71,6 +71,10 @@ module _ (f : Function) where
   abbrev pub ended : Walk → Walk
   ended w = record { trees = w.trees; after = outside_of_it w.after }
 
+  -- the block of what was walked in a scope of its own, and the place behind it
+  abbrev pub IsScoped : Walk → Statement → Place → Type 0
+  IsScoped w s at = (s ≡ block_of w) × (at ≡ outside_of_it w.after)
+
   abbrev pub no_statement : Statement
   no_statement = T.block T.no_statements
 
@@ -99,7 +103,7 @@ module _ (f : Function) where
   given_back site [] at = record { trees = returned (env f at.scopes) f.returns site None; after = at }
   given_back site (t ∷ ts) at =
       or_else (expression_in at.scopes (t ∷ ts)) (λ e. record { trees = returned (env f at.scopes) f.returns site (Some (argument_of (env f at.scopes) e)); after = at })
-          (unread_there site (t ∷ ts) at)
+      (unread_there site (t ∷ ts) at)
 
   abbrev mutual
     -- a statement in a loop or outside

@@ -1,5 +1,5 @@
 -- What held expressions are: conditions, values that are needed, and initialisers.
-use Rattle.std.specs.Prelude.{ℕ, zero, suc, List, [], ◌∷◌, ◌++◌, length, drop, Bool, true, false, ◌||◌, Option, Some, None, codes, if◌then◌else◌}
+use Rattle.std.specs.Prelude.{ℕ, zero, suc, ◌+◌, ◌-◌, List, [], ◌∷◌, ◌++◌, length, drop, Bool, true, false, ◌||◌, Option, Some, None, codes, if◌then◌else◌}
 use Rattle.px_base.specs.declared.trace.Site.{Site}
 use Rattle.px_syntax.specs.TypedTree as T
 use Rattle.px_syntax.specs.TypedTree.{Expression, Condition, Statement}
@@ -22,11 +22,7 @@ use Rattle.px_real_bodies.specs.Phrases.{expression_in, unread_word, first_place
 
 -- how many brackets are open behind a token
 abbrev pub opened : ℕ → Lexeme → ℕ
-opened n t = or_else (closing t.terminal) (λ k. suc n) (if closes_something t.terminal then closed n else n)
-  where
-    closed : ℕ → ℕ
-    closed zero = zero
-    closed (suc m) = m
+opened n t = or_else (closing t.terminal) (λ k. n + 1) (if closes_something t.terminal then n - 1 else n)
 
 -- a token before the first of these items
 abbrev pub onto_first : Lexeme → List (List Lexeme) → List (List Lexeme)
@@ -56,9 +52,16 @@ without_last [] = []
 without_last (t ∷ []) = []
 without_last (t ∷ u ∷ ts) = t ∷ without_last (u ∷ ts)
 
+abbrev pub begins_list : List Lexeme → Bool
+begins_list [] = false
+begins_list (t ∷ ts) = same t.terminal K.OpenBrace
+
+abbrev pub behind_first : List Lexeme → List Lexeme
+behind_first [] = []
+behind_first (t ∷ ts) = ts
+
 abbrev pub listed : List Lexeme → Option (List Lexeme)
-listed [] = None
-listed (t ∷ ts) = if same t.terminal K.OpenBrace then Some (without_last ts) else None
+listed ts = if begins_list ts then Some (without_last (behind_first ts)) else None
 
 module _ (f : Function) (st : Scopes) where
   abbrev pub env : Environment

@@ -118,7 +118,7 @@ pub record Statements : Type 0 where
   pub a_while : Does (while_loop (column 1) (x 8 ∷ []) (break (column 11))) (T.loop (column 1) (Some (word_x 8)) (in_block (T.break ∷ [])) (in_block []) ∷ [])
   pub a_for : Does (for_loop (column 1) (keyword_at (codes "int") 6 ∷ name_at (codes "i") 10 ∷ equal 12 ∷ constant_at 0 14 ∷ []) (x 17 ∷ []) (set_x 1 20) (simple (x 27 ∷ equal 29 ∷ name_at (codes "i") 31 ∷ [])))
       (in_block (T.declare 2 (Some (T.constant (pos 0))) ∷
-          T.loop (column 1) (Some (word_x 17)) (in_block (T.assign (T.local_place 0 (column 27)) (T.local 2 (column 31)) ∷ [])) (in_block (x_is 1 20 ∷ [])) ∷ []) ∷ [])
+      T.loop (column 1) (Some (word_x 17)) (in_block (T.assign (T.local_place 0 (column 27)) (T.local 2 (column 31)) ∷ [])) (in_block (x_is 1 20 ∷ [])) ∷ []) ∷ [])
   -- `do x = 1; while (0);`, `do break; while (0);`, `do x = 1; while (x);`
   pub done_once : Does (do_loop (column 1) (simple (set_x 1 4)) (constant_at 0 18 ∷ [])) (in_block (x_is 1 4 ∷ []) ∷ [])
   pub with_a_break : Does (do_loop (column 1) (break (column 4)) (constant_at 0 18 ∷ [])) (stops [] (codes "do") 1)

@@ -1,11 +1,12 @@
 -- What expressions do as statements, and what an initialiser and a `return` need.
 use Rattle.std.specs.Prelude.{ℕ, pos, List, [], ◌∷◌, ◌++◌, map, Option, Some, None, codes, if◌then◌else◌}
 use Rattle.px_base.specs.declared.trace.Site.{Site}
+use Rattle.px_expressions.specs.Reading.{or_else}
 use Rattle.px_terms.specs.declared.types.TypeId.{TypeId}
 use Rattle.px_syntax.specs.declared.typed_expression.Arithmetic.{Arithmetic}
 use Rattle.px_syntax.specs.declared.typed_expression.Arithmetic.TheVariants as A
 use Rattle.px_syntax.specs.TypedTree as T
-use Rattle.px_syntax.specs.TypedTree.{Expression, Argument, Place, Statement}
+use Rattle.px_syntax.specs.TypedTree.{Expression, Place, Statement}
 use Rattle.px_real_expressions.specs.declared.operators.Prefix.TheVariants as P
 use Rattle.px_real_expressions.specs.declared.operators.Operator.{Operator}
 use Rattle.px_real_expressions.specs.declared.operators.Operator.TheVariants as O
@@ -15,11 +16,11 @@ use Rattle.px_real_expressions.specs.ExpressionTree.{ExpressionTree, parenthesis
 use Rattle.px_real_types.specs.declared.shape.ProfileType.{ProfileType}
 use Rattle.px_real_values.specs.declared.environment.Library.TheVariants as L
 use Rattle.px_real_types.specs.Types.{int, is_int}
-use Rattle.px_real_values.specs.Environment.{Environment, Signature, function, library, type_id}
+use Rattle.px_real_values.specs.Environment.{Environment, library, type_id}
 use Rattle.px_real_values.specs.Operands.{Operand, a_name, stop, first_cell, parts, needed, freed}
 use Rattle.px_real_values.specs.Operators.{assignment_text, step_text}
-use Rattle.px_real_values.specs.Calls.{Given, fits, arguments, all_parts, call_of}
-use Rattle.px_real_values.specs.Values.{first_site, valued, given, block_of}
+use Rattle.px_real_values.specs.Calls.{Given, all_parts}
+use Rattle.px_real_values.specs.Values.{first_site, valued, given}
 use Rattle.px_real_effects.specs.Targets.{Target, a_place, an_access, away, nowhere, pointer_of, target}
 
 -- evaluated in order; no value is read
@@ -48,12 +49,27 @@ written write ps (an_access e block site) = accessed e ps block site ∷ []
 written write ps (away qs) = evaluated (qs ++ ps)
 written write ps (nowhere e) = T.evaluate e ∷ []
 
+-- the operator by which a place of this type is updated: an int's, if the profile has it
+abbrev pub updating : Option Arithmetic → ProfileType → Option Arithmetic
+updating o t = if is_int t then o else None
+
+-- ---- calls whose value isn't read
+
+-- the place of the name `free`, where that is what is called
+abbrev pub free_at : Operand → Option Site
+free_at (a_name (library L.Free) k word at) = Some at
+free_at _ = None
+
+-- what is evaluated of a call: itself, as a statement, or what it is else
+abbrev pub ran : Expression → Statement
+ran (T.call proc es result at) = T.run_call proc es at
+ran (T.get_char at) = T.input at
+ran e = T.evaluate e
+
 module _ (env : Environment) where
-  -- an int is updated by the operator, if the profile has it; the parts are those of the operand
+  -- a place is updated, or it is a `Stop` behind what its pointer needs and these parts
   abbrev pub updated : List ℕ → Site → Option Arithmetic → Expression → List Expression → ProfileType → Place → Statement
-  updated text site None value ps t p = T.evaluate (stop (pointer_of p ++ ps) (env.word_number text) site)
-  updated text site (Some o) value ps t p =
-      if is_int t then T.update o p value else T.evaluate (stop (pointer_of p ++ ps) (env.word_number text) site)
+  updated text site o value ps t p = or_else (updating o t) (λ a. T.update a p value) (T.evaluate (stop (pointer_of p ++ ps) (env.word_number text) site))
 
   -- `=`, at its site, of a value with its first token
   abbrev pub assigned : Site → Operand → Given → List Statement
@@ -69,22 +85,15 @@ module _ (env : Environment) where
   abbrev pub stepped : Step → Site → Operand → List Statement
   stepped s site a = written (updated (step_text s) site (Some (counting s)) (T.constant (pos 1)) []) [] (target env (step_text s) site a)
 
-  -- ---- calls whose value isn't read
-
-  abbrev pub ran : Signature → Site → List Argument → List Statement
-  ran s at xs = T.run_call s.proc (T.arguments_of xs) at ∷ []
-
+  -- `free`, at its name
   abbrev pub freeing : Site → List Given → List Statement
   freeing at (x ∷ []) = T.free ((freed env x.first x.operand).1) (type_id env ((freed env x.first x.operand).0)) at ∷ []
   freeing at xs = T.evaluate (stop (all_parts env xs) (env.word_number (codes "call")) at) ∷ []
 
-  -- a call at this parenthesis: of a function, of `free`, of `getchar`, or any other
-  abbrev pub called_at : Site → Option ProfileType → List Given → Operand → List Statement
-  called_at site block xs (a_name (function s) k word at) =
-      if fits s.parameters s.takes_more xs then ran s at (arguments env s.parameters xs) else evaluated (parts env (call_of env site block xs (a_name (function s) k word at)))
-  called_at site block xs (a_name (library L.Free) k word at) = freeing at xs
-  called_at site block [] (a_name (library L.GetChar) k word at) = T.input at ∷ []
-  called_at site block xs a = evaluated (parts env (call_of env site block xs a))
+  -- of `free`, or any other call, which is an expression too
+  abbrev pub called_by : Option Site → List Given → Operand → List Statement
+  called_by (Some at) xs a = freeing at xs
+  called_by None xs a = map ran (parts env a)
 
   -- ---- an expression as a statement
 
@@ -102,7 +111,7 @@ module _ (env : Environment) where
   performed (prefixed P.Decrement site e) = stepped S.Decrement site (valued env e)
   performed (step s site e) = stepped s site (valued env e)
   performed (assign o site a b) = assigned_by o site (valued env a) (argument_of b)
-  performed (call site f es) = called_at site (block_of env es) (given env es) (valued env f)
+  performed (call site f es) = called_by (free_at (valued env f)) (given env es) (valued env (call site f es))
   performed e = evaluated (parts env (valued env e))
 
   -- ---- values that are needed

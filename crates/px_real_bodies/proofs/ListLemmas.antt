@@ -1,0 +1,90 @@
+-- What is looked for in a list, from its front on.
+use Rattle.std.proofs.Common.{◌≡◌, ◌∙◌, refl, sym, ap, ℕ, zero, suc, ◌+◌, ◌-◌, ◌<◌, ◌≤◌, Bool, true, false, ◌&&◌, List, [], ◌∷◌, ◌++◌, map, length, take, drop, get_or, Option, Some, None, is_some, nat_eq, arith, append_assoc}
+use Rattle.std.specs.Prelude.{if◌then◌else◌}
+use Rattle.std.proofs.lemmas.List.{drop_more, drop_all}
+use Rattle.px_expressions.specs.Reading.{or_else}
+use Rattle.px_real_expressions.specs.declared.terminal.Terminal.{Terminal}
+use Rattle.px_real_expressions.specs.declared.terminal.Terminal.TheVariants as K
+use Rattle.px_real_expressions.specs.Lexemes.{Lexeme, same}
+use Rattle.px_real_expressions.specs.Held.{closing, closes_something}
+use Rattle.px_real_bodies.specs.Values.{opened, onto_first, separated, behind_equal, without_last}
+
+module _ {A B C : Type 0} (view : A → B) (f : List B → C) (xs : List A) (i : ℕ) (all : C) (so_far : f (map view (drop i xs)) ≡ all) where
+  -- the one at i begins what is left
+  pub look_on : (x : A) → i < length xs → x ≡ get_or xs i x → f (view x ∷ map view (drop (i + 1) xs)) ≡ all
+  look_on x lt is = sym (ap (λ z. f (map view z)) (drop_more xs i x lt ∙ ap (λ z. z ∷ drop (i + 1) xs) (sym is))) ∙ so_far
+
+  -- nothing is left
+  pub look_ends : length xs ≤ i → f [] ≡ all
+  look_ends le = sym (ap (λ z. f (map view z)) (drop_all i xs le)) ∙ so_far
+
+-- ---- brackets
+
+module _ (n : ℕ) (t : Lexeme) (k : Terminal) (e : t.terminal ≡ k) where
+  opened_by : or_else (closing k) (λ c. n + 1) (if closes_something k then n - 1 else n) ≡ opened n t
+  opened_by = sym (ap (λ z. or_else (closing z) (λ c. n + 1) (if closes_something z then n - 1 else n)) e)
+
+  pub opens_one : is_some (closing k) ≡ true → n + 1 ≡ opened n t
+  opens_one h = by (closing k) h ∙ opened_by
+    where
+      by : (o : Option Terminal) → is_some o ≡ true → n + 1 ≡ or_else o (λ c. n + 1) (if closes_something k then n - 1 else n)
+      by (Some c) g = refl
+      by None g = absurd cc
+
+  opens_none : is_some (closing k) ≡ false → (if closes_something k then n - 1 else n) ≡ opened n t
+  opens_none h = by (closing k) h ∙ opened_by
+    where
+      by : (o : Option Terminal) → is_some o ≡ false → (if closes_something k then n - 1 else n) ≡ or_else o (λ c. n + 1) (if closes_something k then n - 1 else n)
+      by (Some c) g = absurd cc
+      by None g = refl
+
+  pub closes_one : is_some (closing k) ≡ false → closes_something k ≡ true → n - 1 ≡ opened n t
+  closes_one h g = sym (ap (λ z. if z then n - 1 else n) g) ∙ opens_none h
+
+  pub stays_open : is_some (closing k) ≡ false → closes_something k ≡ false → n ≡ opened n t
+  stays_open h g = sym (ap (λ z. if z then n - 1 else n) g) ∙ opens_none h
+
+-- ---- items of a list
+
+-- what stands at the front of the first item
+abbrev pub onto : List Lexeme → List (List Lexeme) → List (List Lexeme)
+onto us [] = us ∷ []
+onto us (x ∷ xs) = (us ++ x) ∷ xs
+
+onto_more : (us : List Lexeme) (t : Lexeme) (xs : List (List Lexeme)) → onto us (onto_first t xs) ≡ onto (us ++ t ∷ []) xs
+onto_more us t [] = refl
+onto_more us t (x ∷ xs) = ap (λ z. z ∷ xs) (sym (append_assoc us (t ∷ []) x))
+
+-- a token that ends no item
+pub item_goes_on : (n : ℕ) (t : Lexeme) (us ts : List Lexeme) → (nat_eq n 0 && same t.terminal K.Comma) ≡ false → onto us (separated n (t ∷ ts)) ≡ onto (us ++ t ∷ []) (separated (opened n t) ts)
+item_goes_on zero t us ts h = ap (λ z. onto us (if z then [] ∷ separated zero ts else onto_first t (separated (opened zero t) ts))) h ∙ onto_more us t (separated (opened zero t) ts)
+item_goes_on (suc n) t us ts h = onto_more us t (separated (opened (suc n) t) ts)
+
+-- a comma ends one
+pub item_ends : (n : ℕ) (t : Lexeme) (us ts : List Lexeme) → n ≡ 0 → same t.terminal K.Comma ≡ true → onto us (separated n (t ∷ ts)) ≡ us ∷ separated 0 ts
+item_ends zero t us ts h g = ap (λ z. onto us (if z then [] ∷ separated zero ts else onto_first t (separated (opened zero t) ts))) g ∙ ap (λ z. z ∷ separated zero ts) (append_nil us)
+  where
+    append_nil : (us : List Lexeme) → us ++ [] ≡ us
+    append_nil [] = refl
+    append_nil (u ∷ us) = ap (λ z. u ∷ z) (append_nil us)
+item_ends (suc n) t us ts h g = absurd (omega arith)
+
+-- ---- designators
+
+pub equal_later : (n : ℕ) (t : Lexeme) (ts : List Lexeme) → (nat_eq n 0 && same t.terminal K.Equal) ≡ false → behind_equal n (t ∷ ts) ≡ behind_equal (opened n t) ts
+equal_later zero t ts h = ap (λ z. if z then ts else behind_equal (opened zero t) ts) h
+equal_later (suc n) t ts h = refl
+
+pub equal_here : (n : ℕ) (t : Lexeme) (ts : List Lexeme) → n ≡ 0 → same t.terminal K.Equal ≡ true → behind_equal n (t ∷ ts) ≡ ts
+equal_here zero t ts h g = ap (λ z. if z then ts else behind_equal (opened zero t) ts) g
+equal_here (suc n) t ts h g = absurd (omega arith)
+
+-- ---- braces
+
+pub without_last_is : (ts : List Lexeme) → without_last ts ≡ take (length ts - 1) ts
+without_last_is [] = refl
+without_last_is (t ∷ []) = refl
+without_last_is (t ∷ u ∷ ts) = ap (λ z. t ∷ z) (without_last_is (u ∷ ts)) ∙ sym (ap (λ n. take n (t ∷ u ∷ ts)) (more (length ts)))
+  where
+    more : (n : ℕ) → suc (suc n) - 1 ≡ suc (suc n - 1)
+    more n = omega arith

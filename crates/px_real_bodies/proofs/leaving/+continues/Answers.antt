@@ -1,0 +1,23 @@
+use Rattle.std.proofs.Common.{◌+◌, ◌||◌, map, drop, ap, ◌∙◌}
+use Rattle.px_real_statements.specs.StatementTree.{statements_of}
+use Rattle.px_real_blocks.specs.Trees.{statement_tree}
+use Rattle.px_real_bodies.specs.Statements as Rules
+use Rattle.px_real_bodies.proofs.ListLemmas.{look_on, look_ends}
+use Rattle.px_real_bodies.proofs.leaving.+continues.Goals as goal
+
+pub some_continue-returns-then-continues : goal.some_continue-returns-then-continues
+some_continue-returns-then-continues t c = λ all.
+    let xs = c.args.statements.now in
+    let i = c.loop-statement.statement-index in
+    ap (λ z. z || Rules.some_continues (statements_of (map (statement_tree all) (drop (i + 1) xs)))) (c.if-continues.ensures all)
+    ∙ look_on (statement_tree all) (λ z. Rules.some_continues (statements_of z)) xs i _ (c.loop-statement.invariant all) c.statement-item.result c.loop-statement-test.true c.statement-item.is
+
+pub some_continue-loop-statement-preserved : goal.some_continue-loop-statement-preserved
+some_continue-loop-statement-preserved t c = λ all.
+    let xs = c.args.statements.now in
+    let i = c.loop-statement.statement-index in
+    ap (λ z. z || Rules.some_continues (statements_of (map (statement_tree all) (drop (i + 1) xs)))) (c.if-continues.ensures all)
+    ∙ look_on (statement_tree all) (λ z. Rules.some_continues (statements_of z)) xs i _ (c.loop-statement.invariant all) c.statement-item.result c.loop-statement-test.true c.statement-item.is
+
+pub some_continue-returns : goal.some_continue-returns
+some_continue-returns t c = λ all. look_ends (statement_tree all) (λ z. Rules.some_continues (statements_of z)) c.args.statements.now c.loop-statement.statement-index _ (c.loop-statement.invariant all) c.loop-statement-test.false

@@ -1,0 +1,7 @@
+use Rattle.std.proofs.Common.{◌≡◌, map, drop}
+use Rattle.px_real_symbols.specs.Symbols.{see}
+use Rattle.px_real_locals.specs.Addressed as Rules
+use Rattle.px_real_locals.proofs.names.taken.Given as goal
+
+abbrev pub invariant-loop-at : goal.invariant-loop-at
+invariant-loop-at l = Rules.taken (drop l.at (map (see l.source.now) l.symbols)) ≡ Rules.taken (drop l.fn.start (map (see l.source.now) l.symbols))
