@@ -1,7 +1,8 @@
 -- The look over tokens, one after the other.
-use Rattle.std.proofs.Common.{◌≡◌, ◌∙◌, refl, sym, ap, ℕ, ◌+◌, ◌<◌, ◌≤◌, Bool, true, false, ◌&&◌, ◌||◌, not, List, [], ◌∷◌, map, drop, length, slice_index_or, Option, Some, None}
+use Rattle.std.proofs.Common.{◌≡◌, ◌∙◌, refl, sym, ap, ap₂, ℕ, ◌+◌, ◌<◌, ◌≤◌, Bool, true, false, cond, ◌&&◌, ◌||◌, not, List, [], ◌∷◌, map, drop, length, slice_index_or, Option, Some, None, is_some}
 use Rattle.std.specs.Prelude.{if◌then◌else◌}
 use Rattle.std.specs.Str.{bytes_eq}
+use Rattle.std.proofs.lemmas.Slice.Eq.{bytes_eq-Decides}
 use Rattle.px_expressions.specs.Terminals.{is_in}
 use Rattle.px_real_expressions.specs.declared.terminal.Terminal.TheVariants as T
 use Rattle.px_real_expressions.specs.Lexemes.{Lexeme, same}
@@ -9,8 +10,28 @@ use Rattle.px_real_symbols.proofs.FrontLemmas.{drop_mapped, drop_past}
 use Rattle.px_real_locals.specs.Addressed.{ends_operand, is_passed, leads_on, taken, with_name, addressed_from}
 use Rattle.px_real_locals.specs.Views.{is_taken}
 
--- a name more is among them
-pub with_name_in : (o : Option (List ℕ)) (names : List (List ℕ)) (name : List ℕ) → is_in (with_name o names) name ≡ (is_taken o name || is_in names name)
+-- ---- names that are found
+
+either_order : (xs ys : List ℕ) → bytes_eq xs ys ≡ bytes_eq ys xs
+either_order xs ys =
+    by (bytes_eq xs ys) (bytes_eq ys xs) (λ e. (bytes_eq-Decides ys xs).1 (sym ((bytes_eq-Decides xs ys).0 e))) (λ e. (bytes_eq-Decides xs ys).1 (sym ((bytes_eq-Decides ys xs).0 e)))
+  where
+    by : (a b : Bool) → (a ≡ true → b ≡ true) → (b ≡ true → a ≡ true) → a ≡ b
+    by true b f g = sym (f refl)
+    by false true f g = g refl
+    by false false f g = refl
+
+-- a name more is in the table
+pub name_added : {V : Type 0} (v : V) (o : Option (List ℕ)) (text name : List ℕ) (old new : Option V) → Some text ≡ o → new ≡ cond (bytes_eq text name) (Some v) old → is_some new ≡ (is_taken o name || is_some old)
+name_added {V} v o text name old new is h =
+    ap is_some h ∙ by (bytes_eq text name) ∙ ap (λ b. b || is_some old) (either_order text name) ∙ ap (λ z. is_taken z name || is_some old) is
+  where
+    by : (b : Bool) → is_some (cond b (Some v) old) ≡ (b || is_some old)
+    by true = refl
+    by false = refl
+
+-- and in the list
+with_name_in : (o : Option (List ℕ)) (names : List (List ℕ)) (name : List ℕ) → is_in (with_name o names) name ≡ (is_taken o name || is_in names name)
 with_name_in None names name = refl
 with_name_in (Some text) names name = by (bytes_eq name text)
   where
@@ -25,59 +46,72 @@ found_before true false c = refl
 found_before false true c = refl
 found_before false false c = refl
 
-module _ {A : Type 0} (view : A → Lexeme) (xs : List A) (i : ℕ) (d : A) where
+module _ {A : Type 0} (view : A → Lexeme) (xs : List A) (i : ℕ) (x : A) where
   abbrev here : Lexeme
-  here = view (slice_index_or xs i d)
+  here = view (slice_index_or xs i x)
 
   abbrev behind : List Lexeme
   behind = drop (i + 1) (map view xs)
 
   -- ---- behind `&`
 
+  abbrev pub Named : Option (List ℕ)
+  Named = if same here.terminal T.Name && not (leads_on behind) then Some here.text else None
+
   -- what stands between it and the name is passed
   pub passed_on : i < length xs → is_passed here.terminal ≡ true → taken behind ≡ taken (drop i (map view xs))
-  passed_on lt h =
-      sym (ap taken (drop_mapped view xs i d lt) ∙ ap (λ b. if b then taken behind else (if same here.terminal T.Name && not (leads_on behind) then Some here.text else None)) h)
+  passed_on lt h = sym (ap taken (drop_mapped view xs i x lt) ∙ ap (λ b. if b then taken behind else Named) h)
 
-  pub taken_there : i < length xs → is_passed here.terminal ≡ false → (if same here.terminal T.Name && not (leads_on behind) then Some here.text else None) ≡ taken (drop i (map view xs))
-  taken_there lt h =
-      sym (ap taken (drop_mapped view xs i d lt) ∙ ap (λ b. if b then taken behind else (if same here.terminal T.Name && not (leads_on behind) then Some here.text else None)) h)
+  pub taken_there : i < length xs → is_passed here.terminal ≡ false → Named ≡ taken (drop i (map view xs))
+  taken_there lt h = sym (ap taken (drop_mapped view xs i x lt) ∙ ap (λ b. if b then taken behind else Named) h)
 
   pub none_taken : length xs ≤ i → None ≡ taken (drop i (map view xs))
   none_taken le = sym (ap taken (drop_past view xs i le))
 
   pub leads_there : i < length xs → leads_on (drop i (map view xs)) ≡ (same here.terminal T.Arrow || same here.terminal T.OpenBracket)
-  leads_there lt = ap leads_on (drop_mapped view xs i d lt)
-
-  pub leads_nowhere : length xs ≤ i → false ≡ leads_on (drop i (map view xs))
-  leads_nowhere le = sym (ap leads_on (drop_past view xs i le))
+  leads_there lt = ap leads_on (drop_mapped view xs i x lt)
 
   -- ---- in order
 
-  module _ (ended : Bool) (lt : i < length xs) (name : List ℕ) where
-    next_addressed : (b : Bool) → (same here.terminal T.Ampersand && not ended) ≡ b →
-        is_in (addressed_from ended (drop i (map view xs))) name ≡ is_in (if b then with_name (taken behind) (addressed_from (ends_operand here.terminal) behind) else addressed_from (ends_operand here.terminal) behind) name
-    next_addressed b h =
-        ap (λ z. is_in (addressed_from ended z) name) (drop_mapped view xs i d lt)
-        ∙ ap (λ z. is_in (if z then with_name (taken behind) (addressed_from (ends_operand here.terminal) behind) else addressed_from (ends_operand here.terminal) behind) name) h
+  module _ (ts : List Lexeme) (all : map view xs ≡ ts) (ended : Bool) (name : List ℕ) (old whole : Bool) (so_far : (old || is_in (addressed_from ended (drop i ts)) name) ≡ whole) where
+    abbrev rest : List (List ℕ)
+    rest = addressed_from (ends_operand here.terminal) behind
 
-    -- an address is taken
-    pub one_addressed : (same here.terminal T.Ampersand && not ended) ≡ true → (old new : Bool) → new ≡ (is_taken (taken behind) name || old)
-        → (new || is_in (addressed_from (ends_operand here.terminal) behind) name) ≡ (old || is_in (addressed_from ended (drop i (map view xs))) name)
-    one_addressed h old new e =
-        ap (λ z. z || is_in (addressed_from (ends_operand here.terminal) behind) name) e
-        ∙ found_before (is_taken (taken behind) name) old (is_in (addressed_from (ends_operand here.terminal) behind) name)
-        ∙ ap (λ z. old || z) (sym (next_addressed true h ∙ with_name_in (taken behind) (addressed_from (ends_operand here.terminal) behind) name))
+    module _ (lt : i < length xs) (is : x ≡ slice_index_or xs i x) (after : Bool) (ends : after ≡ ends_operand (view x).terminal) where
+      next_addressed : (b : Bool) → (same here.terminal T.Ampersand && not ended) ≡ b → (old || is_in (if b then with_name (taken behind) rest else rest) name) ≡ whole
+      next_addressed b h =
+          sym (ap (λ z. old || is_in (addressed_from ended z) name) (drop_mapped view xs i x lt) ∙ ap (λ z. old || is_in (if z then with_name (taken behind) rest else rest) name) h)
+          ∙ ap (λ z. old || is_in (addressed_from ended (drop i z)) name) all
+          ∙ so_far
 
-    -- none is
-    pub none_addressed : (same here.terminal T.Ampersand && not ended) ≡ false → (old : Bool)
-        → (old || is_in (addressed_from (ends_operand here.terminal) behind) name) ≡ (old || is_in (addressed_from ended (drop i (map view xs))) name)
-    none_addressed h old = ap (λ z. old || z) (sym (next_addressed false h))
+      left : (new : Bool) → (new || is_in (addressed_from after (drop (i + 1) ts)) name) ≡ (new || is_in rest name)
+      left new =
+          ap (λ z. new || is_in (addressed_from z (drop (i + 1) ts)) name) (ends ∙ ap (λ z. ends_operand (view z).terminal) is)
+          ∙ sym (ap (λ z. new || is_in (addressed_from (ends_operand here.terminal) (drop (i + 1) z)) name) all)
 
-  -- nothing is left
-  pub all_addressed : (ended : Bool) (name : List ℕ) (old : Bool) → length xs ≤ i → old ≡ (old || is_in (addressed_from ended (drop i (map view xs))) name)
-  all_addressed ended name old le = by old ∙ ap (λ z. old || is_in (addressed_from ended z) name) (sym (drop_past view xs i le))
-    where
-      by : (b : Bool) → b ≡ (b || false)
-      by true = refl
-      by false = refl
+      sign : (b : Bool) → same (view x).terminal T.Ampersand ≡ b → same here.terminal T.Ampersand ≡ b
+      sign b h = sym (ap (λ z. same (view z).terminal T.Ampersand) is) ∙ h
+
+      -- an address is taken
+      pub one_addressed : same (view x).terminal T.Ampersand ≡ true → ended ≡ false → (new : Bool) → new ≡ (is_taken (taken behind) name || old) → (new || is_in (addressed_from after (drop (i + 1) ts)) name) ≡ whole
+      one_addressed p q new e =
+          left new
+          ∙ ap (λ z. z || is_in rest name) e
+          ∙ found_before (is_taken (taken behind) name) old (is_in rest name)
+          ∙ sym (ap (λ z. old || z) (with_name_in (taken behind) rest name))
+          ∙ next_addressed true (ap₂ (λ a b. a && not b) (sign true p) q)
+
+      -- none is: between two operands, or no `&`
+      pub none_between : same (view x).terminal T.Ampersand ≡ true → ended ≡ true → (old || is_in (addressed_from after (drop (i + 1) ts)) name) ≡ whole
+      none_between p q = left old ∙ next_addressed false (ap₂ (λ a b. a && not b) (sign true p) q)
+
+      pub none_there : same (view x).terminal T.Ampersand ≡ false → (old || is_in (addressed_from after (drop (i + 1) ts)) name) ≡ whole
+      none_there p = left old ∙ next_addressed false (ap (λ a. a && not ended) (sign false p))
+
+    -- nothing is left
+    pub all_addressed : length xs ≤ i → old ≡ whole
+    all_addressed le = by old ∙ sym (ap (λ z. old || is_in (addressed_from ended z) name) (drop_past view xs i le)) ∙ ap (λ z. old || is_in (addressed_from ended (drop i z)) name) all ∙ so_far
+      where
+        by : (b : Bool) → b ≡ (b || false)
+        by true = refl
+        by false = refl

@@ -3,5 +3,6 @@ use Rattle.px_real_symbols.specs.Symbols.{see}
 use Rattle.px_real_locals.specs.Addressed as Rules
 use Rattle.px_real_locals.proofs.names.taken.Given as goal
 
+-- what was passed changes nothing
 abbrev pub invariant-loop-at : goal.invariant-loop-at
-invariant-loop-at l = Rules.taken (drop l.at (map (see l.source.now) l.symbols)) ≡ Rules.taken (drop l.fn.start (map (see l.source.now) l.symbols))
+invariant-loop-at l = Rules.taken (drop l.at (map (see l.source) l.symbols)) ≡ Rules.taken (drop l.start (map (see l.source) l.symbols))

@@ -1,0 +1,15 @@
+-- Statements, one after another.
+use Rattle.std.proofs.Common.{◌≡◌, ◌∙◌, sym, ap, List, [], ◌∷◌, ◌++◌, map, append_assoc, append-nil}
+use Rattle.px_syntax.specs.TypedTree.{Expression, Statement}
+
+-- of each expression one
+module _ (of : Expression → Statement) (before whole : List Statement) where
+  pub put_more : (after : List Statement) (s : Statement) (e : Expression) (xs ys : List Expression) → xs ≡ e ∷ ys → s ≡ of e → after ≡ before ++ s ∷ [] → before ++ map of xs ≡ whole → after ++ map of ys ≡ whole
+  put_more after s e xs ys is one more h =
+      ap (λ z. z ++ map of ys) (more ∙ ap (λ z. before ++ z ∷ []) one)
+      ∙ append_assoc before (of e ∷ []) (map of ys)
+      ∙ sym (ap (λ z. before ++ map of z) is)
+      ∙ h
+
+  pub put_end : (xs : List Expression) → xs ≡ [] → before ++ map of xs ≡ whole → before ≡ whole
+  put_end xs is h = sym (append-nil before) ∙ sym (ap (λ z. before ++ map of z) is) ∙ h
