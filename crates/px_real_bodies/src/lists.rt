@@ -17,24 +17,24 @@ use px_terms::NoMemory;
 use std::alloc::Global;
 
 /// How many brackets are open behind a token of this terminal.
-pub fn opened(open: usize, terminal: Terminal) -> usize
-    requires { open + 1 < 2 ^ 64 }
-    ensures { (t : Lexeme) → t.terminal ≡ terminal → result ≡ Rules.opened open t }
+pub fn opened(brackets: usize, terminal: Terminal) -> usize
+    requires { brackets + 1 < 2 ^ 64 }
+    ensures { (t : Lexeme) → t.terminal ≡ terminal → result ≡ Rules.opened brackets t }
 {
     if closing(terminal).is_some() {
-        open + 1
+        brackets + 1
     } else if closes_something(terminal) {
-        open.saturating_sub(1)
+        brackets.saturating_sub(1)
     } else {
-        open
+        brackets
     }
 }
 
 /// Whether a token of this terminal is such a one outside of brackets.
-pub fn stands_outside(open: usize, terminal: Terminal, wanted: Terminal) -> bool
-    ensures { result ≡ (nat_eq open 0 && same terminal wanted) }
+pub fn stands_outside(brackets: usize, terminal: Terminal, wanted: Terminal) -> bool
+    ensures { result ≡ (nat_eq brackets 0 && same terminal wanted) }
 {
-    open == 0 && terminal == wanted
+    brackets == 0 && terminal == wanted
 }
 
 /// The tokens as the grammar sees them, where no word is the name of a type.

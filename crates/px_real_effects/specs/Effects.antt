@@ -79,7 +79,7 @@ module _ (env : Environment) where
   abbrev pub assigned_with : Operator → Site → Operand → Given → List Statement
   assigned_with o site a b =
       written (updated (assignment_text (Some o)) site (arithmetic_of o) (needed env b.first int b.operand) (parts env b.operand)) (parts env b.operand)
-          (target env (assignment_text (Some o)) site a)
+      (target env (assignment_text (Some o)) site a)
 
   -- `++` and `--`
   abbrev pub stepped : Step → Site → Operand → List Statement

@@ -23,9 +23,13 @@ pub enum Elsewhere {
         site: Site,
     },
     // What else is outside: these parts are evaluated.
-    Away { parts: Vec<TypedExpression> },
+    Away {
+        parts: Vec<TypedExpression>,
+    },
     // A `Stop`.
-    Nowhere { value: TypedExpression },
+    Nowhere {
+        value: TypedExpression,
+    },
 }
 
 // What an assignment writes to.

@@ -22,19 +22,19 @@ loop-at-preserved c = λ name.
     let after = c.ends_operand-ended.result in
     let ends = c.ends_operand-ended.ensures in
     elim c.if-eq.branch [
-      then-eq+then-not-ended+in_ok-add_taken w ↦
-        (let no : c.loop-at.ended ≡ false = (let e = w.if-not-ended.true in cc) in
-        ap (λ z. holds z name || is_in (addressed_from after (drop (i + 1) ts)) name) w.names-is
-        ∙ one_addressed view xs i x ts c.in_ok-symbols.ensures c.loop-at.ended name before _ (c.loop-at.invariant name) lt c.index.ensures after ends (sym c.eq.ensures ∙ w.if-eq.true) no _
+      | then-eq+then-not-ended+in_ok-add_taken w ↦
+          (let no : c.loop-at.ended ≡ false = (let e = w.if-not-ended.true in cc) in
+          ap (λ z. holds z name || is_in (addressed_from after (drop (i + 1) ts)) name) w.names-is
+          ∙ one_addressed view xs i x ts c.in_ok-symbols.ensures c.loop-at.ended name before _ (c.loop-at.invariant name) lt c.index.ensures after ends (sym c.eq.ensures ∙ w.if-eq.true) no _
           (w.in_ok-add_taken.ensures name ∙ ap (λ z. is_taken (taken (drop (i + 1) (map view z))) name || before) w.deref.ensures.value))
-    | else-eq w ↦
-        ap (λ z. holds z name || is_in (addressed_from after (drop (i + 1) ts)) name) w.names-is
-        ∙ elim w.else-eq.branch [
-            else-eq-via-then-eq+else-not-ended v ↦
-              (let yes : c.loop-at.ended ≡ true = (let e = v.if-not-ended.false in cc) in
-              none_between view xs i x ts c.in_ok-symbols.ensures c.loop-at.ended name before _ (c.loop-at.invariant name) lt c.index.ensures after ends (sym c.eq.ensures ∙ v.if-eq.true) yes)
-          | else-eq-via-else-eq v ↦
-              none_there view xs i x ts c.in_ok-symbols.ensures c.loop-at.ended name before _ (c.loop-at.invariant name) lt c.index.ensures after ends (sym c.eq.ensures ∙ v.if-eq.false)
+      | else-eq w ↦
+          ap (λ z. holds z name || is_in (addressed_from after (drop (i + 1) ts)) name) w.names-is
+          ∙ elim w.else-eq.branch [
+            | else-eq-via-then-eq+else-not-ended v ↦
+                (let yes : c.loop-at.ended ≡ true = (let e = v.if-not-ended.false in cc) in
+                none_between view xs i x ts c.in_ok-symbols.ensures c.loop-at.ended name before _ (c.loop-at.invariant name) lt c.index.ensures after ends (sym c.eq.ensures ∙ v.if-eq.true) yes)
+            | else-eq-via-else-eq v ↦
+                none_there view xs i x ts c.in_ok-symbols.ensures c.loop-at.ended name before _ (c.loop-at.invariant name) lt c.index.ensures after ends (sym c.eq.ensures ∙ v.if-eq.false)
           ]
     ]
 
