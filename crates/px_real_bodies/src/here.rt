@@ -8,10 +8,8 @@ use px_base::ProcId;
 use px_real_names::enumerated::within;
 use px_real_scopes::{Function as Declared, Meaning as Means, Scopes};
 use px_real_symbols::Span;
-use px_real_types::{ProfileType, Shape, Texts};
-use px_real_values::{
-    Callee, Environment, Known, Library, Meaning, Member, Signature, TypeSpelled, type_spelled,
-};
+use px_real_types::{Known, Member, ProfileType, Shape, Texts};
+use px_real_values::{Callee, Environment, Library, Meaning, Signature, TypeSpelled, type_spelled};
 use px_terms::NoMemory;
 use std::alloc::Global;
 

@@ -1,2 +1,3 @@
 pub mod StatementLemmas
 pub mod TargetLemmas
+pub mod FreeLemmas
