@@ -302,7 +302,7 @@ fn declare_one<F: Function>(
     place: &mut Place,
     into: &mut Vec<TypedStatement>,
 ) -> Result<(), NoMemory>
-    requires { said.entry.word.now ≡ type_word (map (specifier_tree (texts on.entry)) said.entry.specifiers.now) }
+    requires { said.word.now ≡ type_word (map (specifier_tree (texts on)) said.specifiers.now) }
     ensures { OnOk result (Walked (Rules.with_declarator (F.sees function.now) (place_seen place.old) (map (specifier_tree (texts on.entry)) said.entry.specifiers.now) said.entry.known (declared_tree (texts on.entry) declared.now)) (map typed_statement into.old.items) (map typed_statement into.new.items) (place_seen place.new)) }
 {
     let Some(name) = declared_name(&declared.declarator) else {
@@ -338,7 +338,7 @@ fn declare_all<F: Function>(
     place: &mut Place,
     into: &mut Vec<TypedStatement>,
 ) -> Result<(), NoMemory>
-    requires { said.entry.word.now ≡ type_word (map (specifier_tree (texts on.entry)) said.entry.specifiers.now) }
+    requires { said.word.now ≡ type_word (map (specifier_tree (texts on)) said.specifiers.now) }
     ensures { OnOk result (Walked (Rules.with_declarators (F.sees function.now) (place_seen place.old) (map (specifier_tree (texts on.entry)) said.entry.specifiers.now) said.entry.known (map (declared_tree (texts on.entry)) declared.now)) (map typed_statement into.old.items) (map typed_statement into.new.items) (place_seen place.new)) }
 {
     for each in declared {

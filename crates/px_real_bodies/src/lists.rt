@@ -80,7 +80,7 @@ pub fn listed<'a>(alloc: Global, on: Texts<'a>) -> Result<Option<Texts<'a>>, NoM
 
 // What stands behind the first `=` outside of brackets.
 fn behind_equal<'a>(on: Texts<'a>, symbols: &[Symbol]) -> Texts<'a>
-    requires { map (see on.entry.source.now) symbols.now ≡ texts on.entry }
+    requires { map (see on.source.now) symbols.now ≡ texts on }
     ensures { texts result ≡ Rules.behind_equal 0 (texts on.entry) }
 {
     let mut open: usize = 0;
