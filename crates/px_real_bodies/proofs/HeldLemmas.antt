@@ -24,7 +24,6 @@ use Rattle.px_real_declaring.specs.Whole.{IsOneOf, NoneIs}
 use Rattle.px_real_names.specs.Enumerated.{as_whole}
 use Rattle.px_real_names.proofs.EnumeratedExact.{whole_of}
 use Rattle.px_real_scopes.specs.Steps.{is_memory}
-use Rattle.px_real_scopes.proofs.ReadLemmas.{unread}
 use Rattle.px_real_bodies.specs.Phrases.{if_declaring, is_out_of_memory}
 
 -- ---- expressions
@@ -54,9 +53,11 @@ module _ (types : Types) (ts : List Lexeme) where
   declaration_read d m = ap as_whole (whole_read (declaration_exact types (declared_exact types nesting_limit)) ts d over m)
 
   pub no_declaration_read : ((d : DeclarationTree) → IsOneOf types false ts d → ⊥) → None ≡ or_else (as_whole (declaration_at types nesting_limit ts)) if_declaring None
-  no_declaration_read none =
-      sym (ap (λ z. or_else z if_declaring None)
-      (unread (declaration_at types nesting_limit ts) (λ d e. none d (whole_is (declaration_exact types (declared_exact types nesting_limit)) ts d (whole_of (declaration_at types nesting_limit ts) d e)))))
+  no_declaration_read none = sym (ap (λ z. or_else z if_declaring None) (by (as_whole (declaration_at types nesting_limit ts)) refl))
+    where
+      by : (o : Option DeclarationTree) → as_whole (declaration_at types nesting_limit ts) ≡ o → o ≡ None
+      by (Some d) e = absurd (none d (whole_is (declaration_exact types (declared_exact types nesting_limit)) ts d (whole_of (declaration_at types nesting_limit ts) d e)))
+      by None e = refl
 
   pub declaration_given : (d : DeclarationTree) → IsOneOf types false ts d → if_declaring d ≡ Some d → Some d ≡ or_else (as_whole (declaration_at types nesting_limit ts)) if_declaring None
   declaration_given d m h = sym (ap (λ z. or_else z if_declaring None) (declaration_read d m) ∙ h)

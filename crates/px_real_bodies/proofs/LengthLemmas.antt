@@ -59,11 +59,12 @@ suffix_lengths all d (S.Function site held ∷ ss) = suffix_lengths all (Trees.s
 module _ (f : Function) (st : Scopes) where
   both_vary : (xs ys : List (Site × List Lexeme)) → varies f st (xs ++ ys) ≡ or_else (varies f st xs) (λ site. Some site) (varies f st ys)
   both_vary [] ys = refl
-  both_vary (x ∷ xs) ys = by (is_length f st x.1)
+  both_vary (x ∷ xs) ys = by (is_length f st x.1) (both_vary xs ys)
     where
-      by : (b : Bool) → (if b then varies f st (xs ++ ys) else Some x.0) ≡ or_else (if b then varies f st xs else Some x.0) (λ site. Some site) (varies f st ys)
-      by true = both_vary xs ys
-      by false = refl
+      by : (b : Bool) → varies f st (xs ++ ys) ≡ or_else (varies f st xs) (λ site. Some site) (varies f st ys)
+          → (if b then varies f st (xs ++ ys) else Some x.0) ≡ or_else (if b then varies f st xs else Some x.0) (λ site. Some site) (varies f st ys)
+      by true h = h
+      by false h = refl
 
   -- where none of a declarator varies, those of the suffixes behind it count
   pub suffixes_vary : (all : List Lexeme) (d : DeclaratorTree) (ss : List Suffix) → varies f st (lengths d) ≡ None → varies f st (lengths (Trees.all_suffixed all d ss)) ≡ varies f st (lengths_of all ss)

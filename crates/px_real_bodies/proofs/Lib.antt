@@ -2,6 +2,7 @@ pub mod TabledLemmas
 pub mod HeldLemmas
 pub mod SpelledLemmas
 pub mod ListLemmas
+pub mod LabelLemmas
 pub mod LengthLemmas
 pub mod StorageLemmas
 pub mod DeclarationLemmas

@@ -1,5 +1,5 @@
 -- What attributes and specifiers say.
-use Rattle.std.proofs.Common.{◌≡◌, ◌∙◌, refl, sym, ap, List, [], ◌∷◌, ◌++◌, Option, Some, None}
+use Rattle.std.proofs.Common.{◌≡◌, ◌∙◌, refl, sym, ap, List, [], ◌∷◌, ◌++◌, Option, Some, None, append_assoc}
 use Rattle.px_base.specs.declared.trace.Site.{Site}
 use Rattle.px_expressions.specs.Reading.{or_else}
 use Rattle.px_real_declarations.specs.DeclarationTree.{SpecifierTree, keyword, type_name, group, tagged, GroupTree}
@@ -27,11 +27,14 @@ cleanup_next (tagged word site gs tag held) ss = refl
 
 -- of all that belongs to a name
 module _ (gs hs is : List GroupTree) where
+  first_and_rest : cleanup_of (gs ++ hs ++ is) ≡ or_else (cleanup_of gs) (λ site. Some site) (cleanup_of (hs ++ is))
+  first_and_rest = ap cleanup_of (append_assoc gs hs is) ∙ cleanup_both gs (hs ++ is)
+
   pub first_says : (site : Site) → Some site ≡ cleanup_of gs → Some site ≡ cleanup_of (gs ++ hs ++ is)
-  first_says site h = sym (cleanup_both gs (hs ++ is) ∙ sym (ap (λ z. or_else z (λ site. Some site) (cleanup_of (hs ++ is))) h))
+  first_says site h = sym (first_and_rest ∙ sym (ap (λ z. or_else z (λ site. Some site) (cleanup_of (hs ++ is))) h))
 
   behind_first : None ≡ cleanup_of gs → cleanup_of (gs ++ hs ++ is) ≡ or_else (cleanup_of hs) (λ site. Some site) (cleanup_of is)
-  behind_first h = cleanup_both gs (hs ++ is) ∙ sym (ap (λ z. or_else z (λ site. Some site) (cleanup_of (hs ++ is))) h) ∙ cleanup_both hs is
+  behind_first h = first_and_rest ∙ sym (ap (λ z. or_else z (λ site. Some site) (cleanup_of (hs ++ is))) h) ∙ cleanup_both hs is
 
   pub second_says : (site : Site) → None ≡ cleanup_of gs → Some site ≡ cleanup_of hs → Some site ≡ cleanup_of (gs ++ hs ++ is)
   second_says site g h = sym (behind_first g ∙ sym (ap (λ z. or_else z (λ site. Some site) (cleanup_of is)) h))

@@ -463,7 +463,7 @@ fn put_switch<F: Function>(
 
 /// What a statement does, in a loop or outside, at a place in a body. What it holds is numbered as these tokens are.
 #[cycle(statement)]
-#[tactic(auto, using(px_real_blocks::proofs::TreeEquations::trees))]
+#[tactic(auto, using(px_real_blocks::proofs::StatementEquations::trees))]
 pub fn put_statement<F: Function>(
     alloc: Global,
     function: &F,

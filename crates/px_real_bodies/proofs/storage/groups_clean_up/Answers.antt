@@ -19,7 +19,7 @@ loop-group-preserved c =
     let view = group_tree (texts c.args.on) in
     let xs = c.args.groups.now in
     let i = c.loop-group.group-index in
-    ap (λ z. or_else z (λ site. Some site) (Rules.cleanup_of (map view (drop (i + 1) xs)))) (c.in-None.ensures ∙ ap Rules.cleanup_in c.within.ensures)
+    ap (λ z. or_else z (λ site. Some site) (Rules.cleanup_of (map view (drop (i + 1) xs)))) (c.in_default.ensures ∙ ap Rules.cleanup_in c.within.ensures)
     ∙ look_on view Rules.cleanup_of xs i _ c.loop-group.invariant c.group-item.result c.loop-group-test.true c.group-item.is
 
 pub returns : goal.returns

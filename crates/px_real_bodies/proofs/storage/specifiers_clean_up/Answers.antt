@@ -23,7 +23,7 @@ loop-specifier-preserved c =
     let xs = c.args.specifiers.now in
     let i = c.loop-specifier.specifier-index in
     let rest = map view (drop (i + 1) xs) in
-    ap (λ z. or_else z (λ site. Some site) (Rules.cleanup_of (Rules.groups_in rest))) c.in-None.ensures
+    ap (λ z. or_else z (λ site. Some site) (Rules.cleanup_of (Rules.groups_in rest))) c.in_default.ensures
     ∙ sym (cleanup_next (view c.specifier-item.result) rest)
     ∙ look_on view (λ z. Rules.cleanup_of (Rules.groups_in z)) xs i _ c.loop-specifier.invariant c.specifier-item.result c.loop-specifier-test.true c.specifier-item.is
 
