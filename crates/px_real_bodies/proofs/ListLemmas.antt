@@ -7,7 +7,9 @@ use Rattle.px_real_expressions.specs.declared.terminal.Terminal.{Terminal}
 use Rattle.px_real_expressions.specs.declared.terminal.Terminal.TheVariants as K
 use Rattle.px_real_expressions.specs.Lexemes.{Lexeme, same}
 use Rattle.px_real_expressions.specs.Held.{closing, closes_something}
-use Rattle.px_real_bodies.specs.Values.{opened, onto_first, separated, behind_equal, without_last}
+use Rattle.px_real_symbols.specs.Symbols.{held_in}
+use Rattle.px_real_bodies.specs.Values.{opened, onto_first, separated, behind_equal, without_last, behind_first, begins_list, listed}
+use Rattle.px_real_bodies.specs.Declarations.{only_of}
 
 module _ {A B C : Type 0} (view : A → B) (f : List B → C) (xs : List A) (i : ℕ) (all : C) (so_far : f (map view (drop i xs)) ≡ all) where
   -- the one at i begins what is left
@@ -88,3 +90,56 @@ without_last_is (t ∷ u ∷ ts) = ap (λ z. t ∷ z) (without_last_is (u ∷ ts
   where
     more : (n : ℕ) → suc (suc n) - 1 ≡ suc (suc n - 1)
     more n = omega arith
+
+-- what stands between the first and the last
+between : (ts : List Lexeme) → take (length ts - 1 - 1) (drop 1 ts) ≡ without_last (behind_first ts)
+between [] = refl
+between (t ∷ us) = let e : length (t ∷ us) - 1 - 1 ≡ length us - 1 = omega arith in ap (λ n. take n us) e ∙ sym (without_last_is us)
+
+pub listed_between : (ts : List Lexeme) (n : ℕ) → n ≡ length ts - 1 → begins_list ts ≡ true → Some (held_in ts (record { first = 1; after = n })) ≡ listed ts
+listed_between ts n e h =
+    ap (λ k. Some (take (k - 1) (drop 1 ts))) e ∙ ap (λ z. Some z) (between ts) ∙ sym (ap (λ b. if b then Some (without_last (behind_first ts)) else None) h)
+
+-- ---- the one item
+
+onto_none : (b : Bool) (t : Lexeme) (xs ys : List (List Lexeme)) → onto [] (if b then [] ∷ xs else onto_first t ys) ≡ (if b then [] ∷ xs else onto_first t ys)
+onto_none true t xs ys = refl
+onto_none false t xs [] = refl
+onto_none false t xs (y ∷ ys) = refl
+
+-- nothing was passed yet
+pub onto_nothing : (ts : List Lexeme) → onto [] (separated 0 ts) ≡ separated 0 ts
+onto_nothing [] = refl
+onto_nothing (t ∷ ts) = onto_none (same t.terminal K.Comma) t (separated zero ts) (separated (opened zero t) ts)
+
+two_items : (us : List Lexeme) (b : Bool) (t : Lexeme) (ts : List Lexeme) (ys : List (List Lexeme)) → [] ≡ only_of (us ∷ (if b then [] ∷ separated zero ts else onto_first t ys))
+two_items us true t [] ys = refl
+two_items us true t (u ∷ ts) ys = by (same u.terminal K.Comma) (separated (opened zero u) ts)
+  where
+    by : (b : Bool) (zs : List (List Lexeme)) → [] ≡ only_of (us ∷ [] ∷ (if b then [] ∷ separated zero ts else onto_first u zs))
+    by true zs = refl
+    by false [] = refl
+    by false (z ∷ zs) = refl
+two_items us false t ts [] = refl
+two_items us false t ts (y ∷ ys) = refl
+
+-- what a comma follows is the one item, if nothing stands behind it
+pub one_item : (us : List Lexeme) → us ≡ only_of (us ∷ separated 0 [])
+one_item us = refl
+
+pub not_one_item : (us : List Lexeme) (t : Lexeme) (ts : List Lexeme) → [] ≡ only_of (us ∷ separated 0 (t ∷ ts))
+not_one_item us t ts = two_items us (same t.terminal K.Comma) t ts (separated (opened zero t) ts)
+
+-- one more is open at most
+pub opened_most : (n : ℕ) (t : Lexeme) → opened n t ≤ n + 1
+opened_most n t = by (closing t.terminal) (closes_something t.terminal)
+  where
+    by : (o : Option Terminal) (b : Bool) → or_else o (λ k. n + 1) (if b then n - 1 else n) ≤ n + 1
+    by (Some k) b = omega arith
+    by None true = omega arith
+    by None false = omega arith
+
+-- a token that stands outside of brackets
+pub outside_parts : (n : ℕ) (b : Bool) → true ≡ (nat_eq n 0 && b) → (n ≡ 0) × (b ≡ true)
+outside_parts zero b h = (refl, sym h)
+outside_parts (suc n) b h = absurd cc

@@ -1,3 +1,2 @@
 pub mod StatementLemmas
-pub mod TargetLemmas
 pub mod FreeLemmas
