@@ -1,13 +1,14 @@
 -- What is looked for in a list, from its front on.
-use Rattle.std.proofs.Common.{◌≡◌, ◌∙◌, refl, sym, ap, ℕ, zero, suc, ◌+◌, ◌-◌, ◌<◌, ◌≤◌, Bool, true, false, ◌&&◌, List, [], ◌∷◌, ◌++◌, map, length, take, drop, get_or, Option, Some, None, is_some, nat_eq, arith, append_assoc}
+use Rattle.std.proofs.Common.{◌≡◌, ◌∙◌, refl, sym, ap, ℕ, zero, suc, ◌+◌, ◌-◌, ◌<◌, ◌≤◌, Bool, true, false, ◌&&◌, List, [], ◌∷◌, ◌++◌, map, length, take, drop, get_or, Option, Some, None, is_some, nat_eq, arith, append_assoc, length-drop}
 use Rattle.std.specs.Prelude.{if◌then◌else◌}
-use Rattle.std.proofs.lemmas.List.{drop_more, drop_all}
+use Rattle.std.proofs.lemmas.List.{drop_more, drop_all, take_more}
 use Rattle.px_expressions.specs.Reading.{or_else}
 use Rattle.px_real_expressions.specs.declared.terminal.Terminal.{Terminal}
 use Rattle.px_real_expressions.specs.declared.terminal.Terminal.TheVariants as K
 use Rattle.px_real_expressions.specs.Lexemes.{Lexeme, same}
 use Rattle.px_real_expressions.specs.Held.{closing, closes_something}
 use Rattle.px_real_symbols.specs.Symbols.{held_in}
+use Rattle.px_real_symbols.proofs.FrontLemmas.{drop_mapped}
 use Rattle.px_real_bodies.specs.Values.{opened, onto_first, separated, behind_equal, without_last, behind_first, begins_list, listed}
 use Rattle.px_real_bodies.specs.Declarations.{only_of}
 
@@ -129,6 +130,28 @@ one_item us = refl
 
 pub not_one_item : (us : List Lexeme) (t : Lexeme) (ts : List Lexeme) → [] ≡ only_of (us ∷ separated 0 (t ∷ ts))
 not_one_item us t ts = two_items us (same t.terminal K.Comma) t ts (separated (opened zero t) ts)
+
+-- by how many tokens there are
+pub more_items : (us ts : List Lexeme) (n : ℕ) → n < length ts → [] ≡ only_of (us ∷ separated 0 (drop n ts))
+more_items us ts n lt = let some : 0 < length (drop n ts) = simp (length-drop) (omega arith) in by (drop n ts) some
+  where
+    by : (rest : List Lexeme) → 0 < length rest → [] ≡ only_of (us ∷ separated 0 rest)
+    by [] h = absurd (omega arith)
+    by (t ∷ rest) h = not_one_item us t rest
+
+pub no_more_items : (us ts : List Lexeme) (n : ℕ) → length ts ≤ n → us ≡ only_of (us ∷ separated 0 (drop n ts))
+no_more_items us ts n le = sym (ap (λ z. only_of (us ∷ separated 0 z)) (drop_all n ts le))
+
+-- the first of these, by the token at its number in the list of the code
+pub token_next : {A : Type 0} (view : A → Lexeme) (xs : List A) (ts : List Lexeme) (i : ℕ) (x : A) → map view xs ≡ ts → i < length xs → x ≡ get_or xs i x → drop i ts ≡ view x ∷ drop (i + 1) ts
+token_next view xs ts i x all lt is =
+    sym (ap (drop i) all) ∙ drop_mapped view xs i x lt ∙ ap (λ z. view z ∷ drop (i + 1) (map view xs)) (sym is) ∙ ap (λ z. view x ∷ drop (i + 1) z) all
+
+-- and those before it with it
+pub token_taken : (ts : List Lexeme) (i : ℕ) (t : Lexeme) → i < length ts → drop i ts ≡ t ∷ drop (i + 1) ts → take (i + 1) ts ≡ take i ts ++ t ∷ []
+token_taken ts i t lt h =
+    let is : get_or ts i t ≡ t = (let e = drop_more ts i t lt in cc) in
+    take_more ts i t lt ∙ ap (λ z. take i ts ++ z ∷ []) is
 
 -- one more is open at most
 pub opened_most : (n : ℕ) (t : Lexeme) → opened n t ≤ n + 1
