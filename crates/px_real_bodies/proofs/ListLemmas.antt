@@ -1,6 +1,7 @@
 -- What is looked for in a list, from its front on.
 use Rattle.std.proofs.Common.{◌≡◌, ◌∙◌, refl, sym, ap, ℕ, zero, suc, ◌+◌, ◌-◌, ◌<◌, ◌≤◌, Bool, true, false, ◌&&◌, List, [], ◌∷◌, ◌++◌, map, length, take, drop, get_or, Option, Some, None, is_some, nat_eq, arith, append_assoc, length-drop}
 use Rattle.std.specs.Prelude.{if◌then◌else◌}
+use Rattle.std.proofs.lemmas.Bool.{eqb-true, true≢false}
 use Rattle.std.proofs.lemmas.List.{drop_more, drop_all, take_more}
 use Rattle.px_expressions.specs.Reading.{or_else}
 use Rattle.px_real_expressions.specs.declared.terminal.Terminal.{Terminal}
@@ -164,5 +165,8 @@ opened_most n t = by (closing t.terminal) (closes_something t.terminal)
 
 -- a token that stands outside of brackets
 pub outside_parts : (n : ℕ) (b : Bool) → true ≡ (nat_eq n 0 && b) → (n ≡ 0) × (b ≡ true)
-outside_parts zero b h = (refl, sym h)
-outside_parts (suc n) b h = absurd cc
+outside_parts n b h = by (nat_eq n 0) refl h
+  where
+    by : (a : Bool) → nat_eq n 0 ≡ a → true ≡ (a && b) → (n ≡ 0) × (b ≡ true)
+    by true e g = (eqb-true n 0 e, sym g)
+    by false e g = absurd (true≢false g)
