@@ -19,5 +19,5 @@ pub use laws::{types_are_spelled, worked_values};
 pub use operand::{Operand, alone, last_cell, put, put_all, stop};
 pub use spelling::type_spelled;
 pub use types::{int, is_int, type_id, value_type};
-pub use values::{evaluate, first_site, no_call, suffix, suffixes};
+pub use values::{evaluate, first_site, is_zero, no_call, suffix, suffixes};
 pub use words::{assignment_text, step_text};

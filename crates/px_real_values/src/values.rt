@@ -57,10 +57,10 @@ pub fn first_site(expression: &Expression) -> Site
     }
 }
 
-// Whether it is the constant 0, in parentheses or not.
+/// Whether it is the constant 0, in parentheses or not.
 #[cycle(is_zero)]
 #[tactic(auto, using(px_real_reading::proofs::TreeEquations::trees, crate::proofs::SiteLemmas::chains))]
-fn is_zero(expression: &Expression) -> bool
+pub fn is_zero(expression: &Expression) -> bool
     ensures { (all : List Lexeme) → result ≡ Rules.is_zero (expression_tree all expression.now) }
 {
     match expression {
@@ -510,7 +510,9 @@ fn measured<'a, E: Environment>(
             Measure::Alignment => Ok(None),
         },
         Expression::MeasureType {
-            measure, type_name, ..
+            measure,
+            type_name,
+            ..
         } => match measure {
             Measure::Size => {
                 let spelled = environment.spelled(alloc, *type_name)?;
