@@ -7,6 +7,7 @@ use px_real_values::Signature;
 
 /// What stays the same within a function's body: what its file sees of the run, of which names the function takes the address, and what it
 /// gives.
+#[derive(Clone, Copy)]
 pub struct Inside<'a, R> {
     pub run: &'a R,
     pub addressed: &'a AddressedNames<'a>,

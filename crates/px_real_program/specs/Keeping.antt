@@ -11,7 +11,6 @@ use Rattle.px_real_declarations.specs.Names.{declared_name}
 use Rattle.px_real_types.specs.Linkage.{says_static, weak_names, listed_name}
 use Rattle.px_real_names.specs.Behind.{of_head}
 use Rattle.px_real_scopes.specs.Scopes.{FunctionTree}
-use Rattle.px_real_scopes.specs.Lookups.{flag_at}
 use Rattle.px_real_links.specs.declared.fate.Fate.{Fate}
 use Rattle.px_real_links.specs.declared.fate.Fate.TheVariants as F
 use Rattle.px_real_links.specs.Files as Links
@@ -124,9 +123,9 @@ asked_in ps l = let f = links_of ps l in all_asked l.defined f.definitions (word
 
 -- the names in those that are flagged
 abbrev pub flagged_names : List Bool → List AskedTree → List (List ℕ)
-flagged_names [] as = []
+flagged_names [] qs = []
 flagged_names (b ∷ bs) [] = []
-flagged_names (b ∷ bs) (a ∷ as) = (if b then a.names else []) ++ flagged_names bs as
+flagged_names (b ∷ bs) (a ∷ qs) = (if b then a.names else []) ++ flagged_names bs qs
 
 -- it is external, or somebody names it
 abbrev pub is_wanted : List (List ℕ) → AskedTree → Bool
@@ -137,19 +136,19 @@ is_kept names a = is_none a.word && is_wanted names a
 
 -- the names in the text of the file, and in the functions that are kept when so many follow one another
 abbrev pub named_within : ℕ → List (List ℕ) → List AskedTree → List (List ℕ)
-named_within zero outer as = outer
-named_within (suc n) outer as = outer ++ flagged_names (map (is_kept (named_within n outer as)) as) as
+named_within zero outer qs = outer
+named_within (suc n) outer qs = let names = named_within n outer qs in outer ++ flagged_names (map (is_kept names) qs) qs
 
 abbrev pub named_in : List PieceTree → List AskedTree → List (List ℕ)
-named_in ps as = named_within (length as) (outer_names ps) as
+named_in ps qs = named_within (length qs) (outer_names ps) qs
 
 -- whether each is kept
 abbrev pub kept_flags : List (List ℕ) → List AskedTree → List Bool
-kept_flags names as = map (is_kept names) as
+kept_flags names qs = map (is_kept names) qs
 
 -- the word of each that is left out with a line
 abbrev pub left_word : List (List ℕ) → AskedTree → Option (List ℕ)
 left_word names a = if is_wanted names a then a.word else None
 
 abbrev pub left_words : List (List ℕ) → List AskedTree → List (Option (List ℕ))
-left_words names as = map (left_word names) as
+left_words names qs = map (left_word names) qs
