@@ -1,5 +1,5 @@
 -- The files of a run as they are read, item by item.
-use Rattle.std.specs.Prelude.{ℕ, List, [], ◌∷◌, map, Bool, Option, Some, None}
+use Rattle.std.specs.Prelude.{ℕ, List, [], ◌∷◌, map, flat_map, Bool, Option, Some, None}
 use Rattle.px_base.specs.declared.trace.Site.{Site}
 use Rattle.px_real_expressions.specs.Lexemes.{Lexeme}
 use Rattle.px_real_items.specs.Externals.{ExternalTree, ItemTree, tokens_of}
@@ -30,3 +30,6 @@ first_place (t ∷ ts) = t.site
 -- the texts of tokens
 abbrev pub texts_of : List Lexeme → List (List ℕ)
 texts_of ts = map (λ (t : Lexeme). t.text) ts
+
+abbrev pub file_texts : FileTree → List (List ℕ)
+file_texts f = flat_map (λ (p : PieceTree). texts_of p.tokens) f.pieces

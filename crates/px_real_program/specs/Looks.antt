@@ -7,8 +7,11 @@ use Rattle.px_real_expressions.specs.Lexemes.{Lexeme}
 use Rattle.px_real_statements.specs.StatementTree.{StatementTree}
 use Rattle.px_real_declarations.specs.DeclarationTree.{SpecifierTree, tagged, DeclarationTree, declaration, assertion, HeadTree}
 use Rattle.px_real_declarations.specs.Names.{declared_name}
+use Rattle.px_real_types.specs.declared.shape.Base.TheVariants as B
+use Rattle.px_real_types.specs.declared.shape.Shape.{Shape}
+use Rattle.px_real_types.specs.declared.shape.Shape.TheVariants as S
 use Rattle.px_real_scopes.specs.Scopes.{FunctionTree, Scopes, nothing_in_scope}
-use Rattle.px_real_scopes.specs.Lookups.{are_types, number_of}
+use Rattle.px_real_scopes.specs.Lookups.{are_types, tag_of, number_in, meanings}
 use Rattle.px_real_scopes.specs.Behind.{behind, behind_head}
 use Rattle.px_real_locals.specs.Addressed.{is_addressed}
 use Rattle.px_real_bodies.specs.Environments.{Run}
@@ -73,8 +76,17 @@ pub record BracesTree : Type 0 where
   pub number : ℕ
   pub texts : List (List ℕ)
 
+-- the number of the struct that has no tag, at its place, if it is seen
+abbrev pub number_seen : Shape → Option ℕ
+number_seen (S.Value (B.Struct n) stars) = Some n
+number_seen s = None
+
+abbrev pub number_at : Scopes → Option (List ℕ) → Site → Option ℕ
+number_at st (Some tag) site = number_in (tag_of st.bindings tag)
+number_at st None site = number_seen ((meanings st).placed site)
+
 abbrev pub braces_at : Scopes → Option (List ℕ) → Site → List Lexeme → List BracesTree
-braces_at st tag site held = or_else (number_of st.bindings tag site) (λ n. record { number = n; texts = texts_of held } ∷ []) []
+braces_at st tag site held = or_else (number_at st tag site) (λ n. record { number = n; texts = texts_of held } ∷ []) []
 
 abbrev pub braces_in : Scopes → SpecifierTree → List BracesTree
 braces_in st (tagged word site gs tag (Some held)) = braces_at st tag site held

@@ -16,7 +16,7 @@ use Rattle.px_real_links.specs.Callees.{callee_of}
 use Rattle.px_real_links.specs.Files as Links
 use Rattle.px_real_program.specs.Files.{PieceTree, FileTree}
 use Rattle.px_real_program.specs.Looks.{DefinedTree, LookTree, look, no_run}
-use Rattle.px_real_program.specs.Structs.{Key, keys_in, keys_of_files, all_keys, run_numbers, in_run, in_file, StructTree, structs_in, definition_of}
+use Rattle.px_real_program.specs.Structs.{keys_of_files, all_keys, run_numbers, in_run, in_file, StructTree, structs_in}
 use Rattle.px_real_program.specs.Hidden.{hidden_in}
 use Rattle.px_real_program.specs.Keeping.{AskedTree, asked_in, named_in, kept_flags, left_words, links_of}
 
@@ -34,8 +34,8 @@ pub record KnownFile : Type 0 where
   pub left : List (Option (List ℕ))
 
 -- those that are the same in all files: of each file the numbers of its structs, and all definitions
-abbrev pub all_run_numbers : List LookTree → List (List ℕ)
-all_run_numbers ls = let kss = keys_of_files 0 ls in map (run_numbers (all_keys kss)) kss
+abbrev pub all_run_numbers : List FileTree → List LookTree → List (List ℕ)
+all_run_numbers fs ls = let kss = keys_of_files 0 fs ls in map (run_numbers (all_keys kss)) kss
 
 abbrev pub structs_of_each : List (List ℕ) → List LookTree → List (List StructTree)
 structs_of_each (ns ∷ nss) (l ∷ ls) = structs_in ns l ∷ structs_of_each nss ls
@@ -50,7 +50,7 @@ abbrev pub first_looks : List FileTree → List LookTree
 first_looks fs = map (λ (f : FileTree). look no_run [] f.pieces) fs
 
 abbrev pub all_hidden : List FileTree → List (List Bool)
-all_hidden fs = let ls = first_looks fs in let sss = structs_of_each (all_run_numbers ls) ls in hidden_of_each (flat_map (λ ss. ss) sss) ls sss
+all_hidden fs = let ls = first_looks fs in let sss = structs_of_each (all_run_numbers fs ls) ls in hidden_of_each (flat_map (λ ss. ss) sss) ls sss
 
 abbrev pub second_looks : List FileTree → List (List Bool) → List LookTree
 second_looks (f ∷ fs) (h ∷ hs) = look no_run h f.pieces ∷ second_looks fs hs
@@ -67,7 +67,7 @@ known_each (f ∷ fs) (h ∷ hs) (l ∷ ls) (ns ∷ nss) = known_file f h l ns �
 known_each _ _ _ _ = []
 
 abbrev pub known_files : List FileTree → List KnownFile
-known_files fs = let hs = all_hidden fs in let ls = second_looks fs hs in known_each fs hs ls (all_run_numbers ls)
+known_files fs = let hs = all_hidden fs in let ls = second_looks fs hs in known_each fs hs ls (all_run_numbers fs ls)
 
 -- ---- functions by their file and their number there
 

@@ -18,7 +18,7 @@ use Rattle.px_real_scopes.specs.Lookups.{first_said, flag_at}
 use Rattle.px_real_links.specs.declared.callee.Callee.{Callee}
 use Rattle.px_real_links.specs.declared.callee.Callee.TheVariants as C
 use Rattle.px_real_functions.specs.Definitions.{MadeTree}
-use Rattle.px_real_program.specs.Files.{PieceTree, FileTree, texts_of}
+use Rattle.px_real_program.specs.Files.{FileTree, file_texts}
 use Rattle.px_real_program.specs.Looks.{DefinedTree, LookTree, look}
 use Rattle.px_real_program.specs.Structs.{FieldTree, StructTree, structs_in, cells_of}
 use Rattle.px_real_program.specs.Keeping.{name_or_none}
@@ -58,9 +58,6 @@ own_words =
     codes "_Alignof" ∷ codes "__real__" ∷ codes "__imag__" ∷ codes "(" ∷ codes "[" ∷ codes "." ∷ codes "->" ∷ codes "?" ∷ codes "," ∷ codes "=" ∷ codes "*" ∷ codes "/" ∷ codes "%" ∷ codes "+" ∷ codes "-" ∷
     codes "<<" ∷ codes ">>" ∷ codes "<" ∷ codes ">" ∷ codes "<=" ∷ codes ">=" ∷ codes "==" ∷ codes "!=" ∷ codes "&" ∷ codes "^" ∷ codes "|" ∷ codes "&&" ∷ codes "||" ∷ codes "~" ∷
     codes "!" ∷ codes "++" ∷ codes "--" ∷ codes "*=" ∷ codes "/=" ∷ codes "%=" ∷ codes "+=" ∷ codes "-=" ∷ codes "<<=" ∷ codes ">>=" ∷ codes "&=" ∷ codes "^=" ∷ codes "|=" ∷ []
-
-abbrev pub file_texts : FileTree → List (List ℕ)
-file_texts f = flat_map (λ (p : PieceTree). texts_of p.tokens) f.pieces
 
 abbrev pub all_texts : List FileTree → List (List ℕ)
 all_texts files = first_sights bytes_eq (own_words ++ flat_map file_texts files)

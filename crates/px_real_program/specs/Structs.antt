@@ -1,5 +1,5 @@
 -- The structs and unions of a run: which of them are one type, and what is the definition of each (C11 6.2.7).
-use Rattle.std.specs.Prelude.{ℕ, zero, suc, ◌+◌, ◌-◌, List, [], ◌∷◌, ◌++◌, map, flat_map, length, reverse, slice_get, Bool, true, false, ◌&&◌, ◌||◌, not, Option, Some, None, is_some, option_map, nat_eq, nat_lt, if◌then◌else◌}
+use Rattle.std.specs.Prelude.{ℕ, zero, suc, ◌+◌, ◌-◌, List, [], ◌∷◌, ◌++◌, map, flat_map, length, slice_get, Bool, true, false, ◌&&◌, ◌||◌, not, Option, Some, None, is_some, option_map, nat_eq, nat_lt, if◌then◌else◌}
 use Rattle.std.specs.Str.{bytes_eq}
 use Rattle.px_expressions.specs.Reading.{or_else}
 use Rattle.px_typing.specs.Sights.{first_sights, number_in}
@@ -9,8 +9,9 @@ use Rattle.px_real_types.specs.declared.shape.ProfileType.{ProfileType}
 use Rattle.px_real_types.specs.declared.known.Member.{Member}
 use Rattle.px_real_types.specs.declared.known.Member.TheVariants as M
 use Rattle.px_real_types.specs.Types.{record_in}
-use Rattle.px_real_scopes.specs.Scopes.{BindingTree, of_name, of_tag, a_type, a_record, NamedTree, Scopes}
-use Rattle.px_real_scopes.specs.Lookups.{first_said, members_of}
+use Rattle.px_real_scopes.specs.Scopes.{BindingTree, NamedTree, Scopes}
+use Rattle.px_real_scopes.specs.Lookups.{first_said, tag_of, number_in as number_in_tag, known_type, members_of}
+use Rattle.px_real_program.specs.Files.{FileTree, file_texts}
 use Rattle.px_real_program.specs.Looks.{BracesTree, LookTree}
 
 -- ---- by what a struct or union of a file is known in others
@@ -33,29 +34,28 @@ abbrev pub is_number : ℕ → Option ℕ → Bool
 is_number n (Some m) = nat_eq n m
 is_number n None = false
 
-abbrev pub says_tag_of : ℕ → BindingTree → Option (List ℕ)
-says_tag_of n (of_tag tag (a_record m)) = if nat_eq n m then Some tag else None
-says_tag_of n _ = None
+-- a word that is its tag in the end, and one that is a typedef's
+abbrev pub says_tag : List BindingTree → ℕ → List ℕ → Option (List ℕ)
+says_tag bs n word = if is_number n (number_in_tag (tag_of bs word)) then Some word else None
 
-abbrev pub says_typedef_of : ℕ → BindingTree → Option (List ℕ)
-says_typedef_of n (of_name name (a_type k)) = if is_number n (record_in k) then Some name else None
-says_typedef_of n _ = None
+abbrev pub says_typedef : List BindingTree → ℕ → List ℕ → Option (List ℕ)
+says_typedef bs n word = if is_number n (record_in (known_type bs word)) then Some word else None
 
--- by what is in scope behind the file with this number: the first typedef is the one that names it directly
-abbrev pub key_of : ℕ → List BindingTree → ℕ → Key
-key_of file bs n = or_else (first_said (says_tag_of n) bs) by_tag (or_else (first_said (says_typedef_of n) (reverse bs)) by_typedef (by_place file n))
+-- by the words of the file with this number and what is in scope behind it: the first typedef among them is the one that names it directly
+abbrev pub key_of : ℕ → List (List ℕ) → List BindingTree → ℕ → Key
+key_of file words bs n = or_else (first_said (says_tag bs n) words) by_tag (or_else (first_said (says_typedef bs n) words) by_typedef (by_place file n))
 
-abbrev pub keys_from : ℕ → List BindingTree → ℕ → List Bool → List Key
-keys_from file bs n [] = []
-keys_from file bs n (r ∷ rs) = key_of file bs n ∷ keys_from file bs (n + 1) rs
+abbrev pub keys_from : ℕ → List (List ℕ) → List BindingTree → ℕ → List Bool → List Key
+keys_from file words bs n [] = []
+keys_from file words bs n (r ∷ rs) = key_of file words bs n ∷ keys_from file words bs (n + 1) rs
 
 -- of all structs and unions of a file, by their numbers there
-abbrev pub keys_in : ℕ → LookTree → List Key
-keys_in file l = keys_from file l.after.bindings 0 l.after.records
+abbrev pub keys_in : ℕ → FileTree → LookTree → List Key
+keys_in file f l = keys_from file (file_texts f) l.after.bindings 0 l.after.records
 
-abbrev pub keys_of_files : ℕ → List LookTree → List (List Key)
-keys_of_files file [] = []
-keys_of_files file (l ∷ ls) = keys_in file l ∷ keys_of_files (file + 1) ls
+abbrev pub keys_of_files : ℕ → List FileTree → List LookTree → List (List Key)
+keys_of_files file (f ∷ fs) (l ∷ ls) = keys_in file f l ∷ keys_of_files (file + 1) fs ls
+keys_of_files file _ _ = []
 
 -- ---- their numbers in the run
 

@@ -1,0 +1,297 @@
+ghost use Rattle.std.specs.Prelude.{◌≡◌, ℕ, List, length, map, flat_map, IfOk};
+ghost use Rattle.px_real_types.specs.Scopes.{texts};
+ghost use Rattle.px_real_scopes.specs.Views.{member_view};
+ghost use Rattle.px_real_program.specs.Files.{texts_of};
+ghost use Rattle.px_real_program.specs.Structs as Structs;
+ghost use Rattle.px_real_program.specs.Hidden as Rules;
+ghost use Rattle.px_real_program.specs.Numbers.{structs_of_each, hidden_of_each};
+ghost use Rattle.px_real_program.specs.Steps.{AreDefinitions, AreShown};
+ghost use Rattle.px_real_program.specs.Views.{look_view, numbers_view};
+
+use crate::fields::{cell_count, same_fields};
+use crate::looking::Look;
+use px_expressions::text;
+use px_real_scopes::NamedMember;
+use px_real_types::{Base, Member, Texts};
+use px_terms::NoMemory;
+use std::alloc::Global;
+
+// How many cells a struct has at most, if it is seen.
+const MOST_CELLS: usize = 64;
+
+// A struct or union by its file and its number there.
+#[derive(Clone, Copy, PartialEq, Eq)]
+pub struct At {
+    pub file: usize,
+    pub number: u32,
+}
+
+// By their numbers in the run: the first definition of each struct, and how many it has.
+#[derive(Drop)]
+pub struct Definitions {
+    pub first: Vec<Option<At>>,
+    pub count: Vec<u32>,
+}
+
+// What stands between the braces of each struct of a file, by its number there.
+#[derive(Drop)]
+pub struct Shown<'a> {
+    pub braces: Vec<Option<Texts<'a>>>,
+}
+
+/// How many structs and unions there are in the run.
+pub fn struct_count(structs: &[Vec<u32>]) -> usize {
+    let mut count = 0;
+    for own in structs {
+        for number in own {
+            count = count.max(*number as usize + 1);
+        }
+    }
+    count
+}
+
+// The definitions of all files, where so many structs are in the run.
+fn definitions<'a>(
+    alloc: Global,
+    looks: &[Look<'a>],
+    structs: &[Vec<u32>],
+    count: usize,
+) -> Result<Definitions, NoMemory>
+    requires { length looks.now ≡ length structs.now }
+    ensures { IfOk result (λ d. AreDefinitions (structs_of_each (numbers_view structs.now) (map look_view looks.now)) d) }
+{
+    let mut all = Definitions {
+        first: Vec::new(alloc),
+        count: Vec::new(alloc),
+    };
+    all.first.resize(count, None)?;
+    all.count.resize(count, 0)?;
+    for file in 0..looks.len() {
+        for at in 0..structs[file].len() {
+            let number = at as u32;
+            if looks[file].after.is_defined(number) {
+                let run = structs[file][at] as usize;
+                if all.first[run].is_none() {
+                    all.first[run] = Some(At { file, number });
+                }
+                all.count[run] = all.count[run].saturating_add(1);
+            }
+        }
+    }
+    Ok(all)
+}
+
+// What stands between braces of a file.
+fn shown_in<'a>(alloc: Global, look: &Look<'a>) -> Result<Shown<'a>, NoMemory>
+    ensures { IfOk result (λ s. AreShown (look_view look.now) s) }
+{
+    let mut braces = Vec::new(alloc);
+    braces.resize(look.after.record_count(), None)?;
+    for found in &look.braces {
+        if let Some(place) = braces.get_mut(found.number as usize) {
+            if place.is_none() {
+                *place = Some(found.held);
+            }
+        }
+    }
+    Ok(Shown { braces })
+}
+
+// Whether tokens have the same texts.
+fn same_texts(a: Texts, b: Texts) -> bool
+    ensures { result ≡ Rules.same_all Rattle.std.specs.Str.bytes_eq (texts_of (texts a.entry)) (texts_of (texts b.entry)) }
+{
+    if a.tokens.len() != b.tokens.len() {
+        return false;
+    }
+    for at in 0..a.tokens.len() {
+        let own = a.tokens[at];
+        let other = b.tokens[at];
+        if text(a.source, own.start, own.end) != text(b.source, other.start, other.end) {
+            return false;
+        }
+    }
+    true
+}
+
+// Whether what stands between the braces is the same, where both stand at the top of their files.
+fn same_braces(a: Option<Texts>, b: Option<Texts>) -> bool {
+    match (a, b) {
+        (Some(a), Some(b)) => same_texts(a, b),
+        _ => true,
+    }
+}
+
+// What is seen of all files.
+#[derive(Drop)]
+struct Files<'a, 'b> {
+    looks: &'b [Look<'a>],
+    structs: &'b [Vec<u32>],
+    shown: Vec<Shown<'a>>,
+    definitions: Definitions,
+}
+
+impl<'a, 'b> Files<'a, 'b> {
+    // The members of a definition.
+    fn members(&self, at: At) -> Option<&[NamedMember]> {
+        self.looks.get(at.file)?.after.members(at.number)
+    }
+
+    // What stands between its braces.
+    fn braces(&self, at: At) -> Option<Texts<'a>> {
+        *self.shown.get(at.file)?.braces.get(at.number as usize)?
+    }
+
+    // Its number in the run.
+    fn run(&self, at: At) -> Option<u32> {
+        Some(*self.structs.get(at.file)?.get(at.number as usize)?)
+    }
+
+    // The first definition of the same.
+    fn first(&self, at: At) -> Option<At> {
+        *self.definitions.first.get(self.run(at)? as usize)?
+    }
+
+    // Whether two definitions are the same.
+    fn are_same(&self, a: At, b: At) -> bool {
+        match (self.members(a), self.members(b)) {
+            (Some(members), Some(others)) => {
+                same_fields(
+                    &self.structs[a.file],
+                    members,
+                    &self.structs[b.file],
+                    others,
+                ) && same_braces(self.braces(a), self.braces(b))
+            }
+            _ => true,
+        }
+    }
+
+    // Whether it is defined, and otherwise than it is first.
+    fn is_other(&self, at: At) -> bool {
+        match self.first(at) {
+            Some(first) => first != at && !self.are_same(first, at),
+            None => false,
+        }
+    }
+
+    // Whether its first definition has more cells than are seen.
+    fn is_large(&self, at: At) -> bool {
+        match self.first(at) {
+            Some(first) => match self.members(first) {
+                Some(members) => cell_count(&self.structs[first.file], members) > MOST_CELLS,
+                None => false,
+            },
+            None => false,
+        }
+    }
+
+    // Whether more than one definition of it is there.
+    fn is_shared(&self, at: At) -> bool {
+        match self.run(at) {
+            Some(run) => match self.definitions.count.get(run as usize) {
+                Some(count) => *count > 1,
+                None => false,
+            },
+            None => false,
+        }
+    }
+
+    // Whether a cell of it points to one that is flagged.
+    fn points_to(&self, at: At, flags: &[bool]) -> bool {
+        let Some(members) = self.members(at) else {
+            return false;
+        };
+        for member in members {
+            if let Member::Cell { kind, .. } = member.member {
+                if let Base::Struct(number) = kind.base {
+                    if flags.get(number as usize) == Some(&true) {
+                        return true;
+                    }
+                }
+            }
+        }
+        false
+    }
+
+    // The structs of a file that it defines otherwise than others.
+    fn others(&self, alloc: Global, file: usize) -> Result<Vec<bool>, NoMemory> {
+        let mut flags = Vec::new(alloc);
+        for number in 0..self.structs[file].len() {
+            let at = At {
+                file,
+                number: number as u32,
+            };
+            flags.push(self.is_other(at))?;
+        }
+        Ok(flags)
+    }
+
+    // And those that point to such ones: whether there are more of them than were flagged.
+    fn spread(
+        &self,
+        alloc: Global,
+        file: usize,
+        flags: &[bool],
+        spread: &mut Vec<bool>,
+    ) -> Result<bool, NoMemory> {
+        let mut more = false;
+        spread.clear();
+        for number in 0..flags.len() {
+            let at = At {
+                file,
+                number: number as u32,
+            };
+            let flag = flags[number] || (self.is_shared(at) && self.points_to(at, flags));
+            more |= flag != flags[number];
+            spread.push(flag)?;
+        }
+        Ok(more)
+    }
+
+    // Those of which the file sees nothing.
+    fn hidden(&self, alloc: Global, file: usize) -> Result<Vec<bool>, NoMemory> {
+        let mut flags = self.others(alloc, file)?;
+        let mut next = Vec::new(alloc);
+        for _ in 0..flags.len() {
+            if !self.spread(alloc, file, &flags, &mut next)? {
+                break;
+            }
+            std::mem::swap(&mut flags, &mut next);
+        }
+        for number in 0..flags.len() {
+            let at = At {
+                file,
+                number: number as u32,
+            };
+            flags[number] |= self.is_large(at);
+        }
+        Ok(flags)
+    }
+}
+
+/// By their numbers in each file, the structs of which it sees nothing.
+pub fn all_hidden<'a>(
+    alloc: Global,
+    looks: &[Look<'a>],
+    structs: &[Vec<u32>],
+) -> Result<Vec<Vec<bool>>, NoMemory>
+    requires { length looks.now ≡ length structs.now }
+    ensures { IfOk result (λ v. map (λ h. h.items) v.items ≡ (let sss = structs_of_each (numbers_view structs.now) (map look_view looks.now) in hidden_of_each (flat_map (λ ss. ss) sss) (map look_view looks.now) sss)) }
+{
+    let mut shown = Vec::new(alloc);
+    for look in looks {
+        shown.push(shown_in(alloc, look)?)?;
+    }
+    let files = Files {
+        looks,
+        structs,
+        shown,
+        definitions: definitions(alloc, looks, structs, struct_count(structs))?,
+    };
+    let mut all = Vec::new(alloc);
+    for file in 0..looks.len() {
+        all.push(files.hidden(alloc, file)?)?;
+    }
+    Ok(all)
+}
