@@ -1,5 +1,5 @@
 -- A look over a file, item by item: what is in scope, and what the functions are that it defines.
-use Rattle.std.specs.Prelude.{ℕ, List, [], ◌∷◌, ◌++◌, flat_map, Bool, true, false, Option, Some, None, if◌then◌else◌}
+use Rattle.std.specs.Prelude.{ℕ, List, [], ◌∷◌, ◌++◌, map, flat_map, Bool, true, false, Option, Some, None, if◌then◌else◌}
 use Rattle.px_base.specs.declared.trace.Site.{Site}
 use Rattle.px_base.specs.declared.trace.ProcId.{ProcId}
 use Rattle.px_expressions.specs.Reading.{or_else}
@@ -118,6 +118,13 @@ module _ (run : Run) where
   -- from the beginning of the file, where nothing is seen of the structs that are flagged
   abbrev pub look : List Bool → List PieceTree → LookTree
   look hidden ps = look_from (nothing_in_scope hidden) ps
+
+-- without what the functions do
+abbrev pub without_body : DefinedTree → DefinedTree
+without_body d = record d { body = None }
+
+abbrev pub bare : LookTree → LookTree
+bare l = record l { defined = map without_body l.defined }
 
 -- a run of which nothing is known: what is in scope doesn't depend on it
 abbrev pub no_run : Run

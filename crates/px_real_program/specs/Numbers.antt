@@ -15,7 +15,7 @@ use Rattle.px_real_links.specs.declared.callee.Callee.TheVariants as C
 use Rattle.px_real_links.specs.Callees.{callee_of}
 use Rattle.px_real_links.specs.Files as Links
 use Rattle.px_real_program.specs.Files.{PieceTree, FileTree}
-use Rattle.px_real_program.specs.Looks.{DefinedTree, LookTree, look, no_run}
+use Rattle.px_real_program.specs.Looks.{DefinedTree, LookTree, look, bare, no_run}
 use Rattle.px_real_program.specs.Structs.{keys_of_files, all_keys, run_numbers, in_run, in_file, StructTree, structs_in}
 use Rattle.px_real_program.specs.Hidden.{hidden_in}
 use Rattle.px_real_program.specs.Keeping.{AskedTree, asked_in, named_in, kept_flags, left_words, links_of}
@@ -47,13 +47,13 @@ hidden_of_each all _ _ = []
 
 -- a first look, in which everything is seen
 abbrev pub first_looks : List FileTree → List LookTree
-first_looks fs = map (λ (f : FileTree). look no_run [] f.pieces) fs
+first_looks fs = map (λ (f : FileTree). bare (look no_run [] f.pieces)) fs
 
 abbrev pub all_hidden : List FileTree → List (List Bool)
 all_hidden fs = let ls = first_looks fs in let sss = structs_of_each (all_run_numbers fs ls) ls in hidden_of_each (flat_map (λ ss. ss) sss) ls sss
 
 abbrev pub second_looks : List FileTree → List (List Bool) → List LookTree
-second_looks (f ∷ fs) (h ∷ hs) = look no_run h f.pieces ∷ second_looks fs hs
+second_looks (f ∷ fs) (h ∷ hs) = bare (look no_run h f.pieces) ∷ second_looks fs hs
 second_looks _ _ = []
 
 abbrev pub known_file : FileTree → List Bool → LookTree → List ℕ → KnownFile

@@ -19,6 +19,7 @@ mod program;
 mod seen;
 mod sights;
 mod types;
+mod weak;
 
 pub use file::RealFile;
 pub use laws::worked_programs;

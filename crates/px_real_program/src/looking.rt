@@ -376,24 +376,24 @@ fn add_braces_of<'a>(
     }
 }
 
-/// A look over a file: of the structs that are flagged nothing is seen.
-pub fn look<'a, R: Run>(
+/// A look over a file: of the structs that are flagged nothing is seen. What the functions do is let go, as far as nothing is known of the run.
+pub fn look<'a>(
     alloc: Global,
-    run: &R,
     hidden: Vec<bool>,
     file: &'a RealFile,
 ) -> Result<Look<'a>, NoMemory>
-    ensures { IfOk result (λ l. look_view l ≡ Rules.look (R.sees run.now) hidden.items (file_view file.entry.now).pieces) }
+    ensures { IfOk result (λ l. look_view l ≡ Rules.bare (Rules.look Rules.no_run hidden.items (file_view file.entry.now).pieces)) }
 {
     let on = file.texts();
     let mut scopes = Scopes::new(alloc, hidden);
     let mut defined = Vec::new(alloc);
     let mut braces = Vec::new(alloc);
     for item in &file.items {
-        let stepped = step(alloc, run, scopes, on, item)?;
+        let stepped = step(alloc, &NoRun, scopes, on, item)?;
         scopes = stepped.after;
         add_braces_of(&scopes, on, item, &mut braces)?;
-        if let Some(found) = stepped.defined {
+        if let Some(mut found) = stepped.defined {
+            found.made = None;
             defined.push(found)?;
         }
     }

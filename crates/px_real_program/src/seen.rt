@@ -1,0 +1,69 @@
+ghost use Rattle.std.specs.Prelude.{◌≡◌, ◌<◌, option_map, length, IfOk};
+ghost use Rattle.px_real_program.specs.Programs as Rules;
+ghost use Rattle.px_real_program.specs.Steps.{AreKnown};
+
+use crate::fields::in_run;
+use crate::hidden::At;
+use crate::known::KnownRun;
+use px_real_types::{Base, Member, ProfileType};
+use px_terms::NoMemory;
+use std::alloc::Global;
+
+/// By their numbers in the run, the first definition of each struct that its file sees.
+#[derive(Drop)]
+pub struct SeenStructs {
+    first: Vec<Option<At>>,
+}
+
+impl SeenStructs {
+    /// Those of a run.
+    pub fn new(alloc: Global, run: &KnownRun) -> Result<SeenStructs, NoMemory> {
+        let mut first = Vec::new(alloc);
+        first.resize(run.structs, None)?;
+        for file in 0..run.files.len() {
+            let known = &run.files[file];
+            for at in 0..known.structs.len() {
+                let number = at as u32;
+                let is_seen =
+                    known.hidden.get(at) != Some(&true) && known.look.after.is_defined(number);
+                if let Some(place) = first.get_mut(known.structs[at] as usize) {
+                    if is_seen && place.is_none() {
+                        *place = Some(At { file, number });
+                    }
+                }
+            }
+        }
+        Ok(SeenStructs { first })
+    }
+
+    /// The types of the cells of the one with this number, if it is defined; an int where it has none.
+    pub fn cells(
+        &self,
+        alloc: Global,
+        run: &KnownRun,
+        number: u32,
+    ) -> Result<Option<Vec<ProfileType>>, NoMemory> {
+        let Some(Some(at)) = self.first.get(number as usize) else {
+            return Ok(None);
+        };
+        let Some(known) = run.files.get(at.file) else {
+            return Ok(None);
+        };
+        let Some(members) = known.look.after.members(at.number) else {
+            return Ok(None);
+        };
+        let mut cells = Vec::new(alloc);
+        for member in members {
+            if let Member::Cell { kind, .. } = member.member {
+                cells.push(in_run(&known.structs, kind))?;
+            }
+        }
+        if cells.is_empty() {
+            cells.push(ProfileType {
+                base: Base::Int,
+                stars: 0,
+            })?;
+        }
+        Ok(Some(cells))
+    }
+}
