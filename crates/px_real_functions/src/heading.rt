@@ -84,7 +84,7 @@ fn headed(
 
 /// What the head of a definition says, where it is in scope; nothing where it isn't that of a function whose parameters are read, or where
 /// something else is declared behind them.
-pub fn heading(
+pub fn heading_of(
     alloc: Global,
     scopes: &Scopes,
     on: Texts,

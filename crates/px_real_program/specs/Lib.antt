@@ -6,6 +6,6 @@ pub mod Keeping
 pub mod Sights
 pub mod Numbers
 pub mod Programs
-pub mod Steps
 pub mod Views
+pub mod Steps
 pub mod WorkedPrograms

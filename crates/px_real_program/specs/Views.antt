@@ -1,5 +1,6 @@
 -- What the code has, as plain data.
-use Rattle.std.specs.Prelude.{ℕ, List, [], ◌∷◌, map, Bool, Option, Some, None, option_map}
+use Rattle.std.specs.Prelude.{ℕ, List, [], ◌∷◌, map, Bool, Option, Some, None, option_map, Vec}
+use Rattle.std.specs.declared.alloc.Global.{Global}
 use Rattle.px_base.specs.declared.trace.ProcId.{ProcId}
 use Rattle.px_syntax.specs.ProgramTree.{program_tree}
 use Rattle.px_real_expressions.specs.Lexemes.{Lexeme}
@@ -44,3 +45,6 @@ look_view l = record { defined = map defined_view l.defined.items; braces = map 
 
 abbrev pub run_view : RealProgram → RunTree
 run_view r = record { program = program_tree r.program; several = r.several }
+
+abbrev pub numbers_view : List (Vec ℕ Global) → List (List ℕ)
+numbers_view vs = map (λ v. v.items) vs

@@ -1,8 +1,10 @@
-ghost use Rattle.std.specs.Prelude.{◌≡◌, map, option_map, IfOk};
+ghost use Rattle.std.specs.Prelude.{◌≡◌, ◌||◌, ◌&&◌, not, ℕ, List, length, map, option_map, IfOk, OnOk};
+ghost use Rattle.px_expressions.specs.Terminals.{is_in};
+ghost use Rattle.px_real_scopes.specs.Views.{function_view};
 ghost use Rattle.px_real_links.specs.Files.{definition_tree, file_tree};
 ghost use Rattle.px_real_links.specs.Fates as Fates;
 ghost use Rattle.px_real_program.specs.Keeping as Rules;
-ghost use Rattle.px_real_program.specs.Steps.{IsNamed, reason_word};
+ghost use Rattle.px_real_program.specs.Steps.{is_among, asked_seen, reason_word};
 ghost use Rattle.px_real_program.specs.Views.{file_view, defined_view, look_view};
 
 use crate::file::RealFile;
@@ -46,7 +48,9 @@ pub struct Kept {
 }
 
 // Whether a function has more parameters of the profile than are kept.
-fn has_many(function: &Option<Function>) -> bool {
+fn has_many(function: &Option<Function>) -> bool
+    ensures { result ≡ Rules.has_many (option_map function_view function.now) }
+{
     let Some(function) = function else {
         return false;
     };
@@ -78,7 +82,9 @@ fn reason_of(links: &FileLinks, number: usize, defined: &Defined) -> Option<Reas
 }
 
 // Whether a function is external, or somebody names it.
-fn is_wanted(named: &NamedWords, definition: &Definition) -> bool {
+fn is_wanted(named: &NamedWords, definition: &Definition) -> bool
+    ensures { result ≡ (not ((definition_tree definition.now).is_static && (definition_tree definition.now).is_read) || is_among named.now (definition_tree definition.now).name) }
+{
     let passes_over = definition.is_static && definition.is_read;
     !passes_over || named.contains(definition.name.as_slice())
 }
@@ -90,7 +96,12 @@ fn keep<'a>(
     links: &FileLinks,
     reasons: &[Option<Reason>],
     named: &mut NamedWords<'a>,
-) -> Result<Vec<bool>, NoMemory> {
+) -> Result<Vec<bool>, NoMemory>
+    requires links { length links.now.definitions.items ≡ length look.now.defined.items }
+    requires reasons { length reasons.now ≡ length look.now.defined.items }
+    ensures kept { (outer : List (List ℕ)) → ((name : List ℕ) → is_among named.old name ≡ is_in outer name) → IfOk result (λ v. v.items ≡ (let qs = asked_seen look.now links.now reasons.now in Rules.kept_flags (Rules.named_within (length qs) outer qs) qs)) }
+    ensures named { (outer : List (List ℕ)) → ((name : List ℕ) → is_among named.old name ≡ is_in outer name) → OnOk result ((name : List ℕ) → is_among named.new name ≡ is_in (let qs = asked_seen look.now links.now reasons.now in Rules.named_within (length qs) outer qs) name) }
+{
     let mut kept = Vec::new(alloc);
     kept.resize(reasons.len(), false)?;
     for _ in 0..reasons.len() {

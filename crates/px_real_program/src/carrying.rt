@@ -1,7 +1,13 @@
-ghost use Rattle.std.specs.Prelude.{◌≡◌, map, option_map, IfOk};
+ghost use Rattle.std.specs.Prelude.{◌≡◌, ◌<◌, ℕ, List, length, map, option_map, is_some, nat_eq, Some, None, IfOk, if◌then◌else◌};
+ghost use Rattle.px_base.specs.declared.trace.ProcId.{ProcId as SpecProcId};
+ghost use Rattle.px_real_scopes.specs.Views.{function_view};
+ghost use Rattle.px_real_bodies.specs.Environments.{library_of};
+ghost use Rattle.px_real_program.specs.Structs.{in_file, in_run};
+ghost use Rattle.px_real_program.specs.Numbers.{KnownFile as KnownTree, NumbersTree};
 ghost use Rattle.px_real_values.specs.Views.{signature_seen};
 ghost use Rattle.px_real_program.specs.Numbers as Rules;
-ghost use Rattle.px_real_program.specs.Steps.{AreKnown, AreNumbers, run_seen, carried_view};
+ghost use Rattle.px_real_program.specs.Steps.{AreKnown, AreNumbers, IsPlaces, AreExternals, run_seen, carried_view, called_view};
+ghost use Rattle.px_real_links.specs.Files.{file_tree};
 
 use crate::fields::{in_file, in_run};
 use crate::known::{KnownFile, KnownRun};
@@ -75,7 +81,9 @@ impl<'a, 'b> Run for FileRun<'a, 'b> {
 }
 
 // Whether it is a name of the library.
-fn is_library(name: &[u8]) -> bool {
+fn is_library(name: &[u8]) -> bool
+    ensures { result ≡ is_some (library_of name.now) }
+{
     name == b"malloc".as_slice()
         || name == b"calloc".as_slice()
         || name == b"realloc".as_slice()
@@ -92,7 +100,10 @@ fn carried(
     to: &KnownFile,
     is_same: bool,
     kind: Option<ProfileType>,
-) -> Result<Option<ProfileType>, NoMemory> {
+) -> Result<Option<ProfileType>, NoMemory>
+    requires { IsPlaces to.now.structs.items to.now.places.items }
+    ensures { IfOk result (λ o. o ≡ option_map (λ t. if is_same then t else in_file to.now.structs.items (in_run from.now.structs.items t)) kind) }
+{
     let Some(kind) = kind else {
         return Ok(None);
     };
@@ -110,7 +121,10 @@ fn carried_function(
     to: &KnownFile,
     is_same: bool,
     function: &Function,
-) -> Result<Carried, NoMemory> {
+) -> Result<Carried, NoMemory>
+    requires { IsPlaces to.now.structs.items to.now.places.items }
+    ensures { (fs : List KnownTree) (f g : ℕ) (p : SpecProcId) → Rules.structs_at fs f ≡ from.now.structs.items → Rules.structs_at fs g ≡ to.now.structs.items → nat_eq f g ≡ is_same → IfOk result (λ c. carried_view p c ≡ Rules.carried_function fs f g p (function_view function.now)) }
+{
     let mut parameters = Vec::with_capacity(alloc, function.parameters.len())?;
     for kind in &function.parameters {
         parameters.push(carried(from, to, is_same, *kind)?)?;
@@ -123,7 +137,9 @@ fn carried_function(
 }
 
 // What a call of a name that is left out goes to.
-fn left_out(alloc: Global, numbers: &Numbers, name: &[u8]) -> Called {
+fn left_out(alloc: Global, numbers: &Numbers, name: &[u8]) -> Called
+    ensures { (m : NumbersTree) → AreNumbers m numbers.now → result.proc ≡ Rules.out_id m name.now × called_view result ≡ (if is_some (library_of name.now) then Some (Rules.open_signature (Rules.out_id m name.now)) else None) }
+{
     let signature = if is_library(name) {
         Some(Carried {
             parameters: Vec::new(alloc),
@@ -186,7 +202,12 @@ pub struct External<'b> {
 }
 
 /// The external functions of the run, by name.
-pub fn externals<'b>(alloc: Global, run: &'b KnownRun) -> Result<Vec<External<'b>>, NoMemory> {
+pub fn externals<'b>(
+    alloc: Global,
+    run: &'b KnownRun<'_>,
+) -> Result<Vec<External<'b>>, NoMemory>
+    ensures { IfOk result (λ v. AreExternals (map file_tree run.entry.now.links.items) v.items) }
+{
     let mut seen = IndexMap::new(alloc);
     let mut all = Vec::new(alloc);
     for links in &run.links {
@@ -209,7 +230,8 @@ pub fn file_run<'a, 'b>(
     numbers: &'b Numbers<'a>,
     file: usize,
 ) -> Result<FileRun<'a, 'b>, NoMemory>
-    requires { file < length run.entry.now.files.items }
+    requires within { file < length run.entry.now.files.items }
+    requires externals { AreExternals (map file_tree run.entry.now.links.items) externals.now }
     ensures { (fs : List KnownTree) (m : NumbersTree) → AreKnown fs run.entry.now → AreNumbers m numbers.entry.now → IfOk result (λ r. run_seen r ≡ Rules.seen_by fs m file) }
 {
     let mut names = IndexMap::new(alloc);

@@ -1,11 +1,17 @@
-ghost use Rattle.std.specs.Prelude.{◌≡◌, ℕ, List, length, map, flat_map, IfOk};
+ghost use Rattle.std.specs.Prelude.{◌≡◌, ◌<◌, ◌&&◌, List, length, map, flat_map, slice_get, option_map, Some, None, false, Ok, IfOk, OnOk};
+ghost use Rattle.std.specs.Str.{bytes_eq};
+ghost use Rattle.px_expressions.specs.Reading.{or_else};
 ghost use Rattle.px_real_types.specs.Scopes.{texts};
+ghost use Rattle.px_real_scopes.specs.Lookups.{first_said, members_of};
 ghost use Rattle.px_real_scopes.specs.Views.{member_view};
 ghost use Rattle.px_real_program.specs.Files.{texts_of};
+ghost use Rattle.px_real_program.specs.Looks.{LookTree};
 ghost use Rattle.px_real_program.specs.Structs as Structs;
+ghost use Rattle.px_real_program.specs.Structs.{StructTree};
+ghost use Rattle.px_real_program.specs.Programs.{greatest};
 ghost use Rattle.px_real_program.specs.Hidden as Rules;
 ghost use Rattle.px_real_program.specs.Numbers.{structs_of_each, hidden_of_each};
-ghost use Rattle.px_real_program.specs.Steps.{AreDefinitions, AreShown};
+ghost use Rattle.px_real_program.specs.Steps.{AreDefinitions, AreShown, AreFiles, IsOf, first_found, first_listed, structs_seen, all_structs_seen, struct_seen, look_seen, texts_shown};
 ghost use Rattle.px_real_program.specs.Views.{look_view, numbers_view};
 
 use crate::fields::{cell_count, same_fields};
@@ -40,7 +46,9 @@ pub struct Shown<'a> {
 }
 
 /// How many structs and unions there are in the run.
-pub fn struct_count(structs: &[Vec<u32>]) -> usize {
+pub fn struct_count(structs: &[Vec<u32>]) -> usize
+    ensures { result ≡ greatest 0 (flat_map (λ ns. ns) (numbers_view structs.now)) }
+{
     let mut count = 0;
     for own in structs {
         for number in own {
@@ -99,7 +107,7 @@ fn shown_in<'a>(alloc: Global, look: &Look<'a>) -> Result<Shown<'a>, NoMemory>
 
 // Whether tokens have the same texts.
 fn same_texts(a: Texts, b: Texts) -> bool
-    ensures { result ≡ Rules.same_all Rattle.std.specs.Str.bytes_eq (texts_of (texts a.entry)) (texts_of (texts b.entry)) }
+    ensures { result ≡ Rules.same_all bytes_eq (texts_of (texts a.entry)) (texts_of (texts b.entry)) }
 {
     if a.tokens.len() != b.tokens.len() {
         return false;
@@ -115,7 +123,9 @@ fn same_texts(a: Texts, b: Texts) -> bool
 }
 
 // Whether what stands between the braces is the same, where both stand at the top of their files.
-fn same_braces(a: Option<Texts>, b: Option<Texts>) -> bool {
+fn same_braces(a: Option<Texts>, b: Option<Texts>) -> bool
+    ensures { result ≡ Rules.same_braces (texts_shown a.entry) (texts_shown b.entry) }
+{
     match (a, b) {
         (Some(a), Some(b)) => same_texts(a, b),
         _ => true,
@@ -133,27 +143,43 @@ struct Files<'a, 'b> {
 
 impl<'a, 'b> Files<'a, 'b> {
     // The members of a definition.
-    fn members(&self, at: At) -> Option<&[NamedMember]> {
+    fn members(&self, at: At) -> Option<&[NamedMember]>
+        ensures { option_map (λ ms. map member_view ms.now) result ≡ or_else (look_seen self.now at.file) (λ l. members_of l.after at.number) None }
+    {
         self.looks.get(at.file)?.after.members(at.number)
     }
 
     // What stands between its braces.
-    fn braces(&self, at: At) -> Option<Texts<'a>> {
+    fn braces(&self, at: At) -> Option<Texts<'a>>
+        requires { AreFiles self.now }
+        ensures { texts_shown result ≡ or_else (look_seen self.now at.file) (λ l. first_said (Structs.says_braces at.number) l.braces) None }
+    {
         *self.shown.get(at.file)?.braces.get(at.number as usize)?
     }
 
     // Its number in the run.
-    fn run(&self, at: At) -> Option<u32> {
+    fn run(&self, at: At) -> Option<u32>
+        requires { AreFiles self.now }
+        ensures { result ≡ option_map (λ s. s.number) (struct_seen self.now at) }
+    {
         Some(*self.structs.get(at.file)?.get(at.number as usize)?)
     }
 
     // The first definition of the same.
-    fn first(&self, at: At) -> Option<At> {
+    fn first(&self, at: At) -> Option<At>
+        requires { AreFiles self.now }
+        ensures { IsOf self.now at (λ s. first_found (structs_seen self.now) result ≡ first_listed (Rules.definitions_of (all_structs_seen self.now) s.number)) }
+    {
         *self.definitions.first.get(self.run(at)? as usize)?
     }
 
     // Whether two definitions are the same.
-    fn are_same(&self, a: At, b: At) -> bool {
+    fn are_same(&self, a: At, b: At) -> bool
+        requires files { AreFiles self.now }
+        requires first { a.file < length self.now.structs.now }
+        requires second { b.file < length self.now.structs.now }
+        ensures { IsOf self.now a (λ s. IsOf self.now b (λ r. result ≡ (Rules.same_fields s.fields r.fields && Rules.same_braces s.braces r.braces))) }
+    {
         match (self.members(a), self.members(b)) {
             (Some(members), Some(others)) => {
                 same_fields(
@@ -168,7 +194,10 @@ impl<'a, 'b> Files<'a, 'b> {
     }
 
     // Whether it is defined, and otherwise than it is first.
-    fn is_other(&self, at: At) -> bool {
+    fn is_other(&self, at: At) -> bool
+        requires { AreFiles self.now }
+        ensures { IsOf self.now at (λ s. result ≡ Rules.is_other (all_structs_seen self.now) s) }
+    {
         match self.first(at) {
             Some(first) => first != at && !self.are_same(first, at),
             None => false,
@@ -176,7 +205,10 @@ impl<'a, 'b> Files<'a, 'b> {
     }
 
     // Whether its first definition has more cells than are seen.
-    fn is_large(&self, at: At) -> bool {
+    fn is_large(&self, at: At) -> bool
+        requires { AreFiles self.now }
+        ensures { IsOf self.now at (λ s. result ≡ Rules.is_large (all_structs_seen self.now) s.number) }
+    {
         match self.first(at) {
             Some(first) => match self.members(first) {
                 Some(members) => cell_count(&self.structs[first.file], members) > MOST_CELLS,
@@ -187,7 +219,10 @@ impl<'a, 'b> Files<'a, 'b> {
     }
 
     // Whether more than one definition of it is there.
-    fn is_shared(&self, at: At) -> bool {
+    fn is_shared(&self, at: At) -> bool
+        requires { AreFiles self.now }
+        ensures { IsOf self.now at (λ s. result ≡ Rules.is_shared (all_structs_seen self.now) s.number) }
+    {
         match self.run(at) {
             Some(run) => match self.definitions.count.get(run as usize) {
                 Some(count) => *count > 1,
@@ -198,7 +233,9 @@ impl<'a, 'b> Files<'a, 'b> {
     }
 
     // Whether a cell of it points to one that is flagged.
-    fn points_to(&self, at: At, flags: &[bool]) -> bool {
+    fn points_to(&self, at: At, flags: &[bool]) -> bool
+        ensures { result ≡ or_else (look_seen self.now at.file) (λ l. Rules.any_flag flags.now (Rules.all_pointed (members_of l.after at.number))) false }
+    {
         let Some(members) = self.members(at) else {
             return false;
         };
@@ -215,7 +252,11 @@ impl<'a, 'b> Files<'a, 'b> {
     }
 
     // The structs of a file that it defines otherwise than others.
-    fn others(&self, alloc: Global, file: usize) -> Result<Vec<bool>, NoMemory> {
+    fn others(&self, alloc: Global, file: usize) -> Result<Vec<bool>, NoMemory>
+        requires files { AreFiles self.now }
+        requires within { file < length self.now.structs.now }
+        ensures { IfOk result (λ v. Some v.items ≡ option_map (map (Rules.is_other (all_structs_seen self.now))) (slice_get (structs_seen self.now) file)) }
+    {
         let mut flags = Vec::new(alloc);
         for number in 0..self.structs[file].len() {
             let at = At {
@@ -234,7 +275,12 @@ impl<'a, 'b> Files<'a, 'b> {
         file: usize,
         flags: &[bool],
         spread: &mut Vec<bool>,
-    ) -> Result<bool, NoMemory> {
+    ) -> Result<bool, NoMemory>
+        requires files { AreFiles self.now }
+        requires as_many { (ss : List StructTree) → slice_get (structs_seen self.now) file ≡ Some ss → length flags.now ≡ length ss }
+        ensures spread { (l : LookTree) (ss : List StructTree) → look_seen self.now file ≡ Some l → slice_get (structs_seen self.now) file ≡ Some ss → OnOk result (spread.new.items ≡ Rules.spread_from (all_structs_seen self.now) l flags.now 0 ss) }
+        ensures same { result ≡ Ok false → spread.new.items ≡ flags.now }
+    {
         let mut more = false;
         spread.clear();
         for number in 0..flags.len() {
@@ -250,7 +296,11 @@ impl<'a, 'b> Files<'a, 'b> {
     }
 
     // Those of which the file sees nothing.
-    fn hidden(&self, alloc: Global, file: usize) -> Result<Vec<bool>, NoMemory> {
+    fn hidden(&self, alloc: Global, file: usize) -> Result<Vec<bool>, NoMemory>
+        requires files { AreFiles self.now }
+        requires within { file < length self.now.structs.now }
+        ensures { (l : LookTree) (ss : List StructTree) → look_seen self.now file ≡ Some l → slice_get (structs_seen self.now) file ≡ Some ss → IfOk result (λ v. v.items ≡ Rules.hidden_in (all_structs_seen self.now) l ss) }
+    {
         let mut flags = self.others(alloc, file)?;
         let mut next = Vec::new(alloc);
         for _ in 0..flags.len() {

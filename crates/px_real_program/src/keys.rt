@@ -1,11 +1,14 @@
-ghost use Rattle.std.specs.Prelude.{◌≡◌, ◌+◌, ℕ, length, map, IfOk, OnOk};
+ghost use Rattle.std.specs.Prelude.{◌≡◌, ◌+◌, ℕ, List, length, map, IfOk, OnOk};
+ghost use Rattle.std.specs.List.{position_or_len};
+ghost use Rattle.indexmap.specs.IndexSet.{insert_key};
 ghost use Rattle.px_real_types.specs.Types.{record_in};
 ghost use Rattle.px_real_types.specs.Scopes.{texts};
 ghost use Rattle.px_real_scopes.specs.Lookups.{tag_of, number_in, known_type};
 ghost use Rattle.px_real_program.specs.Files.{texts_of};
 ghost use Rattle.px_real_program.specs.Structs as Rules;
+ghost use Rattle.px_real_program.specs.Structs.{Key as SpecKey};
 ghost use Rattle.px_real_program.specs.Numbers.{all_run_numbers};
-ghost use Rattle.px_real_program.specs.Steps.{key_view, keys_at, all_taken, taken_in};
+ghost use Rattle.px_real_program.specs.Steps.{key_view, key_at, keys_at, all_taken, taken_in, AreNumbered, IsNewPlace};
 ghost use Rattle.px_real_program.specs.Views.{file_view, look_view};
 
 use crate::file::RealFile;
@@ -128,7 +131,10 @@ impl<'a> KeyNumbers<'a> {
     }
 
     // The number of a key, which is a new one where it is seen for the first time.
-    fn number(&mut self, key: Key<'a>) -> Result<u32, NoMemory> {
+    fn number(&mut self, key: Key<'a>) -> Result<u32, NoMemory>
+        ensures number { (file n : ℕ) (seen : List SpecKey) → AreNumbered seen self.old → IsNewPlace seen file n (key_view key.entry) → IfOk result (λ r. r ≡ position_or_len (Rules.same_key (key_at file n (key_view key.entry))) seen) }
+        ensures seen { (file n : ℕ) (seen : List SpecKey) → AreNumbered seen self.old → IsNewPlace seen file n (key_view key.entry) → OnOk result (AreNumbered (insert_key Rules.same_key seen (key_at file n (key_view key.entry))) self.new) }
+    {
         match key {
             Key::Tag(word) => {
                 if let Some(number) = self.tags.get(word) {

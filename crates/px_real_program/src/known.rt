@@ -1,7 +1,9 @@
-ghost use Rattle.std.specs.Prelude.{◌≡◌, map, IfOk};
+ghost use Rattle.std.specs.Prelude.{◌≡◌, ◌<◌, List, map, option_map, IfOk};
+ghost use Rattle.std.specs.List.{AllByRecursion};
 ghost use Rattle.px_real_program.specs.Numbers as Rules;
-ghost use Rattle.px_real_program.specs.Steps.{AreKnown};
-ghost use Rattle.px_real_program.specs.Views.{file_view};
+ghost use Rattle.px_real_program.specs.Numbers.{KnownFile as KnownTree};
+ghost use Rattle.px_real_program.specs.Steps.{AreKnown, IsPlaces};
+ghost use Rattle.px_real_program.specs.Views.{file_view, defined_view, look_view};
 
 use crate::asked::{Kept, kept_of};
 use crate::file::RealFile;
@@ -36,12 +38,16 @@ pub struct KnownRun<'a> {
 
 impl<'a> KnownRun<'a> {
     /// The function with this number in the file with that one.
-    pub fn defined(&self, file: usize, number: usize) -> Option<&Defined<'a>> {
+    pub fn defined(&self, file: usize, number: usize) -> Option<&Defined<'a>>
+        ensures { (fs : List KnownTree) → AreKnown fs self.now → option_map (λ d. defined_view d.now) result ≡ Rules.defined_at fs (file, number) }
+    {
         self.files.get(file)?.look.defined.get(number)
     }
 
     /// Whether it is kept.
-    pub fn is_kept(&self, file: usize, number: usize) -> bool {
+    pub fn is_kept(&self, file: usize, number: usize) -> bool
+        ensures { (fs : List KnownTree) → AreKnown fs self.now → result ≡ Rules.is_kept_at fs (file, number) }
+    {
         match self.files.get(file) {
             Some(known) => known.kept.kept.get(number) == Some(&true),
             None => false,
@@ -50,7 +56,9 @@ impl<'a> KnownRun<'a> {
 }
 
 // A look over each file, in which all is seen.
-fn first_looks<'a>(alloc: Global, files: &'a [RealFile]) -> Result<Vec<Look<'a>>, NoMemory> {
+fn first_looks<'a>(alloc: Global, files: &'a [RealFile]) -> Result<Vec<Look<'a>>, NoMemory>
+    ensures { IfOk result (λ v. map look_view v.items ≡ Rules.first_looks (map file_view files.entry.now)) }
+{
     let mut looks = Vec::new(alloc);
     for file in files {
         looks.push(look(alloc, Vec::new(alloc), file)?)?;
@@ -72,7 +80,10 @@ fn places_of(
     alloc: Global,
     structs: &[u32],
     count: usize,
-) -> Result<Vec<Option<u32>>, NoMemory> {
+) -> Result<Vec<Option<u32>>, NoMemory>
+    requires { AllByRecursion (λ n. n < count) structs.now }
+    ensures { IfOk result (λ v. IsPlaces structs.now v.items) }
+{
     let mut places = Vec::new(alloc);
     places.resize(count, None)?;
     for number in 0..structs.len() {

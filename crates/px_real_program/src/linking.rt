@@ -32,7 +32,7 @@ fn add_declared<'a>(
     names: &mut IndexSet<&'a [u8]>,
     declared: &'a [Declared],
 ) -> Result<(), NoMemory>
-    ensures { (name : List ℕ) (all : List Lexeme) → OnOk result (are_among names.new name ≡ (are_among names.old name || is_in (Rules.names_declared (map (declared_tree all) declared.entry.now)) name)) }
+    ensures { (name : List ℕ) (all : List Lexeme) → OnOk result (are_among (map (λ n. n.now) names.new.keys) name ≡ (are_among (map (λ n. n.now) names.old.keys) name || is_in (Rules.names_declared (map (declared_tree all) declared.entry.now)) name)) }
 {
     for each in declared {
         if let Some(name) = declared_name(&each.declarator) {
@@ -44,7 +44,7 @@ fn add_declared<'a>(
 
 // The names that an item declares as static.
 fn add_static<'a>(names: &mut IndexSet<&'a [u8]>, item: &'a FileItem) -> Result<(), NoMemory>
-    ensures { (name : List ℕ) (all : List Lexeme) → OnOk result (are_among names.new name ≡ (are_among names.old name || is_in (Rules.said_by Rules.static_names (piece_of all (item_tree all item.entry.now))) name)) }
+    ensures { (name : List ℕ) (all : List Lexeme) → OnOk result (are_among (map (λ n. n.now) names.new.keys) name ≡ (are_among (map (λ n. n.now) names.old.keys) name || is_in (Rules.said_by Rules.static_names (piece_of all (item_tree all item.entry.now))) name)) }
 {
     match &item.read {
         Ok(External::Declaration(Declaration::Declaration {
@@ -125,7 +125,7 @@ fn link_of(
     statics: &IndexSet<&[u8]>,
     defined: &Defined,
 ) -> Result<Definition, NoMemory>
-    ensures { (names : List (List ℕ)) → ((name : List ℕ) → are_among statics.now name ≡ is_in names name) → IfOk result (λ d. definition_tree d ≡ Rules.link_of names (defined_view defined.now)) }
+    ensures { (names : List (List ℕ)) → ((name : List ℕ) → are_among (map (λ n. n.now) statics.now.keys) name ≡ is_in names name) → IfOk result (λ d. definition_tree d ≡ Rules.link_of names (defined_view defined.now)) }
 {
     let name = bytes_of(&defined.name);
     Ok(Definition {

@@ -16,7 +16,7 @@ ghost use Rattle.px_real_program.specs.Views.{file_view, listed, stepped_view, b
 use crate::file::RealFile;
 use px_base::{ProcId, Site};
 use px_real_declaring::{Declaration, DeclarationFault, Declarator, Specifier};
-use px_real_functions::{Made, Run, define, heading, shaped_name};
+use px_real_functions::{Made, Run, define, heading_of, shaped_name};
 use px_real_items::{External, FileItem};
 use px_real_locals::addressed_names;
 use px_real_members::Head;
@@ -203,7 +203,7 @@ fn behind_head<'a, R: Run>(
 {
     let before = some_of(own, start);
     let name = head_name(alloc, &head.declarator)?;
-    let Some(heading) = heading(alloc, &scopes, before, head)? else {
+    let Some(heading) = heading_of(alloc, &scopes, before, head)? else {
         return Ok(a_form(own, name, scopes));
     };
     let addressed = addressed_names(alloc, own)?;

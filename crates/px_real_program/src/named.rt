@@ -1,10 +1,12 @@
-ghost use Rattle.std.specs.Prelude.{◌≡◌, ◌++◌, ◌||◌, ℕ, List, map, OnOk};
+ghost use Rattle.std.specs.Prelude.{◌≡◌, ◌||◌, ℕ, List, map, OnOk};
 ghost use Rattle.px_expressions.specs.Terminals.{is_in};
+ghost use Rattle.px_real_declaring.specs.Trees.{declared_tree};
 ghost use Rattle.px_real_items.specs.Trees.{item_tree};
 ghost use Rattle.px_real_types.specs.Scopes.{texts};
 ghost use Rattle.px_real_program.specs.Files.{piece_of};
 ghost use Rattle.px_real_program.specs.Keeping as Rules;
 ghost use Rattle.px_real_program.specs.Steps.{is_among};
+ghost use Rattle.px_real_program.specs.Views.{file_view};
 
 use crate::file::RealFile;
 use crate::looking::tokens_of;
@@ -65,7 +67,9 @@ impl<'a> NamedWords<'a> {
         alloc: Global,
         on: Texts<'a>,
         declared: &[Declared],
-    ) -> Result<(), NoMemory> {
+    ) -> Result<(), NoMemory>
+        ensures { (name : List ℕ) → OnOk result (is_among self.new name ≡ (is_among self.old name || is_in (Rules.initialiser_names (map (declared_tree (texts on.entry)) declared.now)) name)) }
+    {
         for each in declared {
             if let Some(value) = each.value {
                 self.add(alloc, within(on, value))?;
@@ -94,7 +98,9 @@ impl<'a> NamedWords<'a> {
     }
 
     /// Takes the names of a file in that stand outside of functions.
-    pub fn add_outer(&mut self, alloc: Global, file: &'a RealFile) -> Result<(), NoMemory> {
+    pub fn add_outer(&mut self, alloc: Global, file: &'a RealFile) -> Result<(), NoMemory>
+        ensures { (name : List ℕ) → OnOk result (is_among self.new name ≡ (is_among self.old name || is_in (Rules.outer_names (file_view file.entry.now).pieces) name)) }
+    {
         for item in &file.items {
             self.add_item(alloc, file.texts(), item)?;
         }

@@ -1,7 +1,5 @@
-ghost use Rattle.std.specs.Prelude.{◌≡◌, ◌+◌, ℕ, List, length, map, IfOk};
-ghost use Rattle.px_real_types.specs.Types.{same_type};
-ghost use Rattle.px_typing.specs.Sights.{number_in};
-ghost use Rattle.px_real_program.specs.Steps.{IsNumbered, type_code};
+ghost use Rattle.std.specs.Prelude.{◌≡◌, map, option_map, IfOk, IfSome};
+ghost use Rattle.px_real_program.specs.Steps.{IsNumbered, id_of, code_of, type_id_of, kept_at};
 
 use indexmap::{IndexMap, IndexSet};
 use px_base::ProcId;
@@ -34,7 +32,9 @@ impl<'a> Ids<'a> {
     }
 
     /// The number of a name. Takes no memory.
-    pub fn number(&self, name: &[u8]) -> u32 {
+    pub fn number(&self, name: &[u8]) -> u32
+        ensures { result ≡ id_of self.now name.now }
+    {
         match self.ids.get(name) {
             Some(number) => *number,
             None => self.first,
@@ -44,7 +44,7 @@ impl<'a> Ids<'a> {
 
 /// A type as one number: each struct has three, by its stars, and so has int.
 pub fn type_code(kind: ProfileType) -> Option<u32>
-    ensures { IfSomeIs result (type_code kind) }
+    ensures exact { IfSome result (λ n. n ≡ code_of kind) }
 {
     let base = match kind.base {
         Base::Int => 0,
@@ -54,7 +54,9 @@ pub fn type_code(kind: ProfileType) -> Option<u32>
 }
 
 /// The type of such a number.
-pub fn type_of(code: u32) -> ProfileType {
+pub fn type_of(code: u32) -> ProfileType
+    ensures { code_of result ≡ code }
+{
     let base = code / 3;
     ProfileType {
         base: if base == 0 {
@@ -77,7 +79,9 @@ pub enum TypeIds {
 
 impl TypeIds {
     /// The number of a type of the run. Takes no memory.
-    pub fn number(&self, kind: ProfileType) -> u32 {
+    pub fn number(&self, kind: ProfileType) -> u32
+        ensures { result ≡ type_id_of self.now kind }
+    {
         let Some(code) = type_code(kind) else {
             return 0;
         };
@@ -104,7 +108,9 @@ pub struct Numbers<'a> {
 
 impl<'a> Numbers<'a> {
     /// The number of a kept function.
-    pub fn kept_id(&self, file: usize, number: usize) -> Option<ProcId> {
+    pub fn kept_id(&self, file: usize, number: usize) -> Option<ProcId>
+        ensures { option_map (λ p. p.0) result ≡ kept_at self.now file number }
+    {
         let id = *self.kept.get(file)?.get(number)?;
         Some(ProcId(id?))
     }

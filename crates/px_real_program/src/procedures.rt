@@ -1,8 +1,9 @@
-ghost use Rattle.std.specs.Prelude.{◌≡◌, ◌++◌, List, map, IfOk, OnOk};
+ghost use Rattle.std.specs.Prelude.{◌≡◌, ◌++◌, List, map, option_map, IfOk, OnOk};
 ghost use Rattle.px_syntax.specs.ProgramTree.{procedure_tree};
-ghost use Rattle.px_real_program.specs.Numbers.{KnownFile as KnownTree, NumbersTree};
+ghost use Rattle.px_real_program.specs.Numbers.{KnownFile as KnownTree, NumbersTree, seen_by};
 ghost use Rattle.px_real_program.specs.Programs as Rules;
-ghost use Rattle.px_real_program.specs.Steps.{AreKnown, AreNumbers};
+ghost use Rattle.px_real_program.specs.Steps.{AreKnown, IsKnown, AreNumbers, run_seen};
+ghost use Rattle.px_real_program.specs.Views.{defined_view};
 
 use crate::carrying::{FileRun, externals, file_run};
 use crate::known::{KnownFile, KnownRun};
@@ -15,7 +16,9 @@ use px_terms::NoMemory;
 use std::alloc::Global;
 
 // What a function does, if it is one, under its number.
-fn procedure_of(proc: ProcId, defined: Defined) -> Option<Procedure> {
+fn procedure_of(proc: ProcId, defined: Defined) -> Option<Procedure>
+    ensures { option_map procedure_tree result ≡ option_map (Rules.procedure_of proc (defined_view defined)) (defined_view defined).body }
+{
     let made = defined.made?;
     Some(Procedure {
         proc,
@@ -34,7 +37,9 @@ fn add_procedures(
     numbers: &Numbers,
     file: usize,
     procedures: &mut Vec<Procedure>,
-) -> Result<(), NoMemory> {
+) -> Result<(), NoMemory>
+    ensures { (fs : List KnownTree) (m : NumbersTree) (f : KnownTree) → IsKnown f known.now → AreNumbers m numbers.now → run_seen run.now ≡ seen_by fs m file → OnOk result (map procedure_tree procedures.new.items ≡ map procedure_tree procedures.old.items ++ Rules.procedures_in fs m file f) }
+{
     let on = known.file.texts();
     let hidden = Vec::from_slice(alloc, &known.hidden)?;
     let mut scopes = Scopes::new(alloc, hidden);

@@ -1,13 +1,17 @@
-ghost use Rattle.std.specs.Prelude.{◌≡◌, ◌<◌, ◌≤◌, ◌++◌, ℕ, List, map, flat_map, option_map, length, IfOk, OnOk, IsErrOf};
+ghost use Rattle.std.specs.Prelude.{◌≡◌, ◌<◌, ◌≤◌, ◌+◌, ◌-◌, ◌++◌, ℕ, List, map, flat_map, filter_map, option_map, length, slice_get, IfOk, OnOk, IsErrOf};
+ghost use Rattle.std.specs.Str.{bytes_eq};
+ghost use Rattle.indexmap.specs.IndexSet.{insert_all};
+ghost use Rattle.px_syntax.specs.ProgramTree.{procedure_tree};
+ghost use Rattle.px_typing.specs.Sights.{first_sights};
 ghost use Rattle.px_base.specs.Bounds.{most_procedures};
 ghost use Rattle.px_typing.specs.declared.typing.ProgramFault.TheVariants.{Procedures};
 ghost use Rattle.px_real_links.specs.declared.callee.Callee.TheVariants as Called;
 ghost use Rattle.px_real_program.specs.Files.{FileTree};
 ghost use Rattle.px_real_program.specs.Numbers.{KnownFile as KnownTree, NumbersTree, known_files, kept_places, called};
-ghost use Rattle.px_real_program.specs.Sights.{in_procedure};
+ghost use Rattle.px_real_program.specs.Sights.{Sight, in_procedure};
 ghost use Rattle.px_real_program.specs.Programs as Rules;
 ghost use Rattle.px_real_program.specs.Programs.{program_of};
-ghost use Rattle.px_real_program.specs.Steps.{AreKnown, AreNumbers, AreSeen, left_view};
+ghost use Rattle.px_real_program.specs.Steps.{AreKnown, AreNumbers, AreTypesNumbered, AreSeen, AreSeenStructs, AreKeptNumbers, IsNamed, left_view};
 ghost use Rattle.px_real_program.specs.Views.{file_view, run_view};
 
 use crate::asked::Reason;
@@ -75,7 +79,9 @@ fn all_texts<'a>(alloc: Global, files: &'a [RealFile]) -> Result<IndexSet<&'a [u
 fn kept_numbers(
     alloc: Global,
     run: &KnownRun,
-) -> Result<(Vec<Vec<Option<u32>>>, u32), NoMemory> {
+) -> Result<(Vec<Vec<Option<u32>>>, u32), NoMemory>
+    ensures { (fs : List KnownTree) → AreKnown fs run.now → IfOk result (λ x. AreKeptNumbers (kept_places 0 fs) x.0.items x.1) }
+{
     let mut all = Vec::new(alloc);
     let mut next: u32 = 0;
     for known in &run.files {
@@ -97,7 +103,9 @@ fn kept_numbers(
 }
 
 // The number behind so many more.
-fn behind(first: u32, count: usize) -> Result<u32, NoMemory> {
+fn behind(first: u32, count: usize) -> Result<u32, NoMemory>
+    ensures { IfOk result (λ n. n ≡ first + count) }
+{
     let Ok(count) = u32::try_from(count) else {
         return Err(NoMemory);
     };
@@ -115,7 +123,9 @@ fn numbers_of<'a>(
     unknown: &IndexSet<&'a [u8]>,
     types: TypeIds,
     words: &IndexSet<&'a [u8]>,
-) -> Result<Numbers<'a>, NoMemory> {
+) -> Result<Numbers<'a>, NoMemory>
+    ensures { (fs : List KnownTree) (m : NumbersTree) → AreKnown fs run.now → m.kept ≡ kept_places 0 fs → map (λ w. w.now) out.now.keys ≡ m.out → map (λ w. w.now) unknown.now.keys ≡ m.unknown → AreTypesNumbered m.types types → map (λ w. w.now) words.now.keys ≡ m.words → IfOk result (AreNumbers m) }
+{
     let (kept, count) = kept_numbers(alloc, run)?;
     let first_unknown = behind(count, out.len())?;
     behind(first_unknown, unknown.len())?;
@@ -220,6 +230,8 @@ fn add_called<'b, 'a>(
 ) -> Result<(), NoMemory>
 where
     'a: 'b,
+    ensures out { (m : NumbersTree) → length m.kept ≡ kept → m.out ≡ map (λ w. w.now) texts.now.keys → m.unknown ≡ m.out → OnOk result (map (λ w. w.now) out.new.keys ≡ insert_all bytes_eq (map (λ w. w.now) out.old.keys) (filter_map (Rules.out_at m) functions.now.keys)) }
+    ensures unknown { (m : NumbersTree) → length m.kept ≡ kept → m.out ≡ map (λ w. w.now) texts.now.keys → m.unknown ≡ m.out → OnOk result (map (λ w. w.now) unknown.new.keys ≡ insert_all bytes_eq (map (λ w. w.now) unknown.old.keys) (filter_map (Rules.unknown_at m) functions.now.keys)) }
 {
     for function in functions.as_slice() {
         let number = *function as usize;
@@ -242,7 +254,9 @@ fn words_of<'a>(
     alloc: Global,
     texts: &IndexSet<&'a [u8]>,
     numbers: &IndexSet<u32>,
-) -> Result<IndexSet<&'a [u8]>, NoMemory> {
+) -> Result<IndexSet<&'a [u8]>, NoMemory>
+    ensures { IfOk result (λ s. map (λ w. w.now) s.keys ≡ first_sights bytes_eq (filter_map (slice_get (map (λ w. w.now) texts.now.keys)) numbers.now.keys)) }
+{
     let mut words = IndexSet::new(alloc);
     for number in numbers.as_slice() {
         if let Some(word) = texts.get_index(*number as usize) {
@@ -308,7 +322,9 @@ fn left_of(
 }
 
 // So many numbers from one on.
-fn several_from(alloc: Global, first: u32, after: u32) -> Result<Items<ProcId>, NoMemory> {
+fn several_from(alloc: Global, first: u32, after: u32) -> Result<Items<ProcId>, NoMemory>
+    ensures { IfOk result (λ v. v ≡ Rules.several_from first (after - first)) }
+{
     let mut all = Items::new(alloc);
     for number in first..after {
         all.push(ProcId(number))?;
@@ -349,6 +365,7 @@ fn named_by<'b, 'a>(
 ) -> Result<Named<'b>, NoMemory>
 where
     'a: 'b,
+    ensures { (files : List FileTree) (ss : List Sight) → AreKnown (known_files files) run.now → AreSeenStructs (known_files files) seen.now → map left_view left.now ≡ Rules.left_in 0 (known_files files) → map (λ w. w.now) texts.now.keys ≡ Rules.all_texts files → AreSeen ss sights.now → IfOk result (IsNamed (length (Rules.out_names (known_files files))) (Rules.narrowed (known_files files) (Rules.all_numbers files (known_files files)) ss)) }
 {
     let mut out = out_names(alloc, run, left)?;
     let own = out.len();
@@ -374,7 +391,11 @@ fn assembled(
     named: &Named,
     numbers: &Numbers,
     procedures: Vec<Procedure>,
-) -> Result<RealProgram, ProgramFault> {
+) -> Result<RealProgram, ProgramFault>
+    ensures program { (m : NumbersTree) → let fs = known_files (map file_view files.now) in AreKnown fs run.now → AreSeenStructs fs seen.now → map left_view left.now ≡ Rules.left_in 0 fs → IsNamed (length (Rules.out_names fs)) m named.now → AreNumbers m numbers.now → m.kept ≡ kept_places 0 fs → map procedure_tree procedures.items ≡ Rules.procedures fs m → IfOk result (λ r. run_view r ≡ Rules.program_with (map file_view files.now) fs m) }
+    ensures few { IfOk result (λ r. r.program.kept ≤ most_procedures) }
+    ensures many { (n : ℕ) → IsErrOf result (Procedures n) → (n ≡ length procedures.items) × (most_procedures < n) }
+{
     let kept = procedures.len();
     if 1024 < kept {
         return Err(ProgramFault::Procedures(kept as u64));

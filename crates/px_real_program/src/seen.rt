@@ -1,6 +1,7 @@
-ghost use Rattle.std.specs.Prelude.{◌≡◌, ◌<◌, option_map, length, IfOk};
+ghost use Rattle.std.specs.Prelude.{◌≡◌, List, option_map, IfOk};
+ghost use Rattle.px_real_program.specs.Numbers.{KnownFile as KnownTree};
 ghost use Rattle.px_real_program.specs.Programs as Rules;
-ghost use Rattle.px_real_program.specs.Steps.{AreKnown};
+ghost use Rattle.px_real_program.specs.Steps.{AreKnown, AreSeenStructs};
 
 use crate::fields::in_run;
 use crate::hidden::At;
@@ -17,7 +18,9 @@ pub struct SeenStructs {
 
 impl SeenStructs {
     /// Those of a run.
-    pub fn new(alloc: Global, run: &KnownRun) -> Result<SeenStructs, NoMemory> {
+    pub fn new(alloc: Global, run: &KnownRun) -> Result<SeenStructs, NoMemory>
+        ensures { (fs : List KnownTree) → AreKnown fs run.now → IfOk result (AreSeenStructs fs) }
+    {
         let mut first = Vec::new(alloc);
         first.resize(run.structs, None)?;
         for file in 0..run.files.len() {
@@ -42,7 +45,9 @@ impl SeenStructs {
         alloc: Global,
         run: &KnownRun,
         number: u32,
-    ) -> Result<Option<Vec<ProfileType>>, NoMemory> {
+    ) -> Result<Option<Vec<ProfileType>>, NoMemory>
+        ensures { (fs : List KnownTree) → AreKnown fs run.now → AreSeenStructs fs self.now → IfOk result (λ o. option_map (λ v. v.items) o ≡ Rules.cells_at fs number) }
+    {
         let Some(Some(at)) = self.first.get(number as usize) else {
             return Ok(None);
         };

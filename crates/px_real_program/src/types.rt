@@ -1,5 +1,9 @@
-ghost use Rattle.std.specs.Prelude.{◌≡◌, map, IfOk, OnOk};
+ghost use Rattle.std.specs.Prelude.{◌≡◌, ◌+◌, ◌*◌, ◌≤◌, ◌∷◌, List, map, flat_map, IfOk, OnOk};
+ghost use Rattle.px_real_types.specs.declared.shape.ProfileType.{ProfileType as SpecType};
+ghost use Rattle.px_real_types.specs.Types.{int, number_of};
+ghost use Rattle.px_real_program.specs.Numbers.{KnownFile as KnownTree, NumbersTree};
 ghost use Rattle.px_real_program.specs.Programs as Rules;
+ghost use Rattle.px_real_program.specs.Steps.{AreKnown, AreSeenStructs, AreTypesNumbered, AreTypes, SeesTypes, code_of};
 
 use crate::known::KnownRun;
 use crate::numbers::{TypeIds, type_code, type_of};
@@ -17,7 +21,10 @@ pub struct NamedTypes {
 
 impl NamedTypes {
     // A base and its pointers up to this type.
-    fn see(&mut self, kind: ProfileType) -> Result<(), NoMemory> {
+    fn see(&mut self, kind: ProfileType) -> Result<(), NoMemory>
+        requires { kind.stars ≤ 2 }
+        ensures { OnOk result (SeesTypes self.old self.new (Rules.with_bases kind)) }
+    {
         for stars in 0..kind.stars + 1 {
             let of = ProfileType {
                 base: kind.base,
@@ -32,7 +39,10 @@ impl NamedTypes {
     }
 
     // What a value of a cell points to.
-    fn see_behind(&mut self, kind: ProfileType) -> Result<(), NoMemory> {
+    fn see_behind(&mut self, kind: ProfileType) -> Result<(), NoMemory>
+        requires { kind.stars ≤ 2 }
+        ensures { OnOk result (SeesTypes self.old self.new (Rules.behind_value kind)) }
+    {
         if kind.stars == 0 {
             return Ok(());
         }
@@ -49,7 +59,9 @@ impl NamedTypes {
         run: &KnownRun,
         seen: &SeenStructs,
         kind: ProfileType,
-    ) -> Result<(), NoMemory> {
+    ) -> Result<(), NoMemory>
+        ensures { (fs : List KnownTree) → AreKnown fs run.now → AreSeenStructs fs seen.now → OnOk result (SeesTypes self.old self.new (Rules.behind_block fs kind)) }
+    {
         let Some(number) = struct_in(kind) else {
             return Ok(());
         };
@@ -62,7 +74,9 @@ impl NamedTypes {
     }
 
     /// The numbers of all.
-    pub fn ids(&self, alloc: Global) -> Result<TypeIds, NoMemory> {
+    pub fn ids(&self, alloc: Global) -> Result<TypeIds, NoMemory>
+        ensures { (ts : List SpecType) → AreTypes ts self.now → IfOk result (AreTypesNumbered ts) }
+    {
         let mut ids = IndexMap::new(alloc);
         let mut next: u32 = 0;
         for code in self.codes.as_slice() {
@@ -77,7 +91,9 @@ impl NamedTypes {
 }
 
 // The number of a struct.
-fn struct_in(kind: ProfileType) -> Option<u32> {
+fn struct_in(kind: ProfileType) -> Option<u32>
+    ensures { result ≡ number_of kind }
+{
     match kind.base {
         Base::Struct(number) if kind.stars == 0 => Some(number),
         _ => None,
@@ -85,7 +101,9 @@ fn struct_in(kind: ProfileType) -> Option<u32> {
 }
 
 // How many types there may be.
-fn most_types(run: &KnownRun) -> usize {
+fn most_types(run: &KnownRun) -> usize
+    ensures { result ≡ (run.now.structs + 1) * 3 }
+{
     run.structs.saturating_add(1).saturating_mul(3)
 }
 
@@ -95,7 +113,9 @@ pub fn named_types(
     run: &KnownRun,
     seen: &SeenStructs,
     codes: &IndexSet<u32>,
-) -> Result<NamedTypes, NoMemory> {
+) -> Result<NamedTypes, NoMemory>
+    ensures { (fs : List KnownTree) → AreKnown fs run.now → AreSeenStructs fs seen.now → (ts : List SpecType) → map code_of ts ≡ codes.now.keys → IfOk result (AreTypes (Rules.reached fs (Rules.struct_count fs) (int ∷ flat_map Rules.with_bases ts))) }
+{
     let mut types = NamedTypes {
         codes: IndexSet::new(alloc),
     };
@@ -115,7 +135,10 @@ pub fn named_types(
 }
 
 // The type of the values of an int or a pointer.
-fn value_in(ids: &TypeIds, kind: ProfileType) -> ValueType {
+fn value_in(ids: &TypeIds, kind: ProfileType) -> ValueType
+    requires { kind.stars ≤ 2 }
+    ensures { (m : NumbersTree) → AreTypesNumbered m.types ids.now → result ≡ Rules.value_in m kind }
+{
     if kind.stars == 0 {
         return ValueType::Int;
     }
@@ -133,7 +156,10 @@ fn block_in(
     seen: &SeenStructs,
     ids: &TypeIds,
     kind: ProfileType,
-) -> Result<BlockType, NoMemory> {
+) -> Result<BlockType, NoMemory>
+    requires { kind.stars ≤ 2 }
+    ensures { (fs : List KnownTree) (m : NumbersTree) → AreKnown fs run.now → AreSeenStructs fs seen.now → AreTypesNumbered m.types ids.now → IfOk result (λ b. b ≡ Rules.block_in fs m kind) }
+{
     let Some(number) = struct_in(kind) else {
         return Ok(BlockType::One(value_in(ids, kind)));
     };
@@ -154,7 +180,9 @@ pub fn blocks_of(
     seen: &SeenStructs,
     types: &NamedTypes,
     ids: &TypeIds,
-) -> Result<Items<BlockType>, NoMemory> {
+) -> Result<Items<BlockType>, NoMemory>
+    ensures { (fs : List KnownTree) (m : NumbersTree) → AreKnown fs run.now → AreSeenStructs fs seen.now → AreTypesNumbered m.types ids.now → AreTypes m.types types.now → IfOk result (λ v. v ≡ map (Rules.block_in fs m) m.types) }
+{
     let mut blocks = Vec::with_capacity(alloc, types.codes.len())?;
     for code in types.codes.as_slice() {
         blocks.push(block_in(alloc, run, seen, ids, type_of(*code))?)?;
