@@ -87,7 +87,7 @@ impl TypeIds {
         };
         match self {
             TypeIds::All => code,
-            TypeIds::Named(ids) => match ids.get(code) {
+            TypeIds::Named(ids) => match ids.get(&code) {
                 Some(number) => *number,
                 None => 0,
             },
