@@ -246,22 +246,33 @@ AreTypes ts s = s.codes.keys ≡ map code_of ts
 
 pub record IsKnown (f : KnownTree) (k : Known) : Type 0 where
   pub pieces : f.pieces ≡ (file_view k.file.now).pieces
-  pub hidden : f.hidden ≡ k.hidden.items
-  pub look : f.look ≡ look_view k.look
-  pub structs : f.structs ≡ k.structs.items
-  pub kept : f.kept ≡ k.kept.kept.items
-  pub left : f.left ≡ map (option_map reason_word) k.kept.left.items
-  pub places : IsPlaces k.structs.items k.places.items
-
-abbrev pub AreAllKnown : List KnownTree → List Known → Type 0
-AreAllKnown [] [] = ⊤
-AreAllKnown (f ∷ fs) (k ∷ ks) = IsKnown f k × AreAllKnown fs ks
-AreAllKnown _ _ = ⊥
+  pub hidden : f.hidden ≡ k.hidden.now
+  pub look : f.look ≡ look_view k.look.now
+  pub structs : f.structs ≡ k.structs.now
+  pub kept : f.kept ≡ k.kept.now.kept.items
+  pub left : f.left ≡ map (option_map reason_word) k.kept.now.left.items
+  pub places : IsPlaces k.structs.now k.places.now
 
 pub record AreKnown (fs : List KnownTree) (r : KnownRun) : Type 0 where
-  pub files : AreAllKnown fs r.files.items
+  pub pieces : map (λ (f : KnownTree). f.pieces) fs ≡ map (λ f. (file_view f).pieces) r.files.now
+  pub hidden : map (λ (f : KnownTree). f.hidden) fs ≡ map (λ h. h.items) r.hidden.items
+  pub looks : map (λ (f : KnownTree). f.look) fs ≡ map look_view r.looks.items
+  pub structs : map (λ (f : KnownTree). f.structs) fs ≡ numbers_view r.structs.items
+  pub kept : map (λ (f : KnownTree). f.kept) fs ≡ map (λ k. k.kept.items) r.kept.items
+  pub left : map (λ (f : KnownTree). f.left) fs ≡ map (λ k. map (option_map reason_word) k.left.items) r.kept.items
+  pub places : (i : ℕ) → IfSome (slice_get r.structs.items i) (λ ns. IfSome (slice_get r.places.items i) (λ ps. IsPlaces ns.items ps.items))
   pub links : map file_tree r.links.items ≡ all_links fs
-  pub structs : struct_count fs ≡ r.structs
+  pub count : struct_count fs ≡ r.count
+
+-- something is known of each file
+pub record IsWhole (r : KnownRun) : Type 0 where
+  pub looks : length r.looks.items ≡ length r.files.now
+  pub hidden : length r.hidden.items ≡ length r.files.now
+  pub structs : length r.structs.items ≡ length r.files.now
+  pub places : length r.places.items ≡ length r.files.now
+  pub kept : length r.kept.items ≡ length r.files.now
+  pub links : length r.links.items ≡ length r.files.now
+  pub functions : (i : ℕ) → IfSome (slice_get r.looks.items i) (λ l. IfSome (slice_get r.kept.items i) (λ k. (length k.kept.items ≡ length l.defined.items) × (length k.left.items ≡ length l.defined.items)))
 
 -- ---- by their numbers in the run, the first definition of each struct that its file sees
 

@@ -6,7 +6,7 @@ ghost use Rattle.px_real_program.specs.Structs.{in_file, in_run};
 ghost use Rattle.px_real_program.specs.Numbers.{KnownFile as KnownTree, NumbersTree};
 ghost use Rattle.px_real_values.specs.Views.{signature_seen};
 ghost use Rattle.px_real_program.specs.Numbers as Rules;
-ghost use Rattle.px_real_program.specs.Steps.{AreKnown, AreNumbers, IsPlaces, AreExternals, run_seen, carried_view, called_view};
+ghost use Rattle.px_real_program.specs.Steps.{AreKnown, IsWhole, AreNumbers, IsPlaces, AreExternals, run_seen, carried_view, called_view};
 ghost use Rattle.px_real_links.specs.Files.{file_tree};
 
 use crate::fields::{in_file, in_run};
@@ -95,14 +95,14 @@ fn is_library(name: &[u8]) -> bool
 }
 
 // A type of one file in the numbers of another.
-fn carried(
-    from: &KnownFile,
-    to: &KnownFile,
+fn carried_type(
+    from: KnownFile,
+    to: KnownFile,
     is_same: bool,
     kind: Option<ProfileType>,
 ) -> Result<Option<ProfileType>, NoMemory>
-    requires { IsPlaces to.now.structs.items to.now.places.items }
-    ensures { IfOk result (λ o. o ≡ option_map (λ t. if is_same then t else in_file to.now.structs.items (in_run from.now.structs.items t)) kind) }
+    requires { IsPlaces to.entry.structs.now to.entry.places.now }
+    ensures { IfOk result (λ o. o ≡ option_map (λ t. if is_same then t else in_file to.entry.structs.now (in_run from.entry.structs.now t)) kind) }
 {
     let Some(kind) = kind else {
         return Ok(None);
@@ -110,29 +110,29 @@ fn carried(
     if is_same {
         return Ok(Some(kind));
     }
-    let run = in_run(&from.structs, kind);
-    Ok(Some(in_file(&to.structs, &to.places, run)?))
+    let run = in_run(from.structs, kind);
+    Ok(Some(in_file(to.structs, to.places, run)?))
 }
 
 // A function of one file in the numbers of another.
 fn carried_function(
     alloc: Global,
-    from: &KnownFile,
-    to: &KnownFile,
+    from: KnownFile,
+    to: KnownFile,
     is_same: bool,
     function: &Function,
 ) -> Result<Carried, NoMemory>
-    requires { IsPlaces to.now.structs.items to.now.places.items }
-    ensures { (fs : List KnownTree) (f g : ℕ) (p : SpecProcId) → Rules.structs_at fs f ≡ from.now.structs.items → Rules.structs_at fs g ≡ to.now.structs.items → nat_eq f g ≡ is_same → IfOk result (λ c. carried_view p c ≡ Rules.carried_function fs f g p (function_view function.now)) }
+    requires { IsPlaces to.entry.structs.now to.entry.places.now }
+    ensures { (fs : List KnownTree) (f g : ℕ) (p : SpecProcId) → Rules.structs_at fs f ≡ from.entry.structs.now → Rules.structs_at fs g ≡ to.entry.structs.now → nat_eq f g ≡ is_same → IfOk result (λ c. carried_view p c ≡ Rules.carried_function fs f g p (function_view function.now)) }
 {
     let mut parameters = Vec::with_capacity(alloc, function.parameters.len())?;
     for kind in &function.parameters {
-        parameters.push(carried(from, to, is_same, *kind)?)?;
+        parameters.push(carried_type(from, to, is_same, *kind)?)?;
     }
     Ok(Carried {
         parameters,
         takes_more: function.takes_more,
-        result: carried(from, to, is_same, function.result)?,
+        result: carried_type(from, to, is_same, function.result)?,
     })
 }
 
@@ -156,7 +156,7 @@ fn left_out(alloc: Global, numbers: &Numbers, name: &[u8]) -> Called
 }
 
 // What a call of a name in a file goes to, by what links say.
-fn called(
+fn called_by(
     alloc: Global,
     run: &KnownRun,
     numbers: &Numbers,
@@ -164,18 +164,19 @@ fn called(
     name: &[u8],
     callee: Callee,
 ) -> Result<Called, NoMemory>
-    requires { file < length run.now.files.items }
+    requires whole { IsWhole run.now }
+    requires within { file < length run.now.files.now }
     ensures { (fs : List KnownTree) (m : NumbersTree) → AreKnown fs run.now → AreNumbers m numbers.now → IfOk result (λ c. c.proc ≡ Rules.called_id m name.now (Rules.if_kept fs callee) × option_map (carried_view c.proc) c.signature ≡ Rules.signature_of fs m file name.now (Rules.if_kept fs callee)) }
 {
     match callee {
         Callee::Function { file: from, number } => {
             match (numbers.kept_id(from, number), run.defined(from, number)) {
-                (Some(proc), Some(defined)) => {
+                (Some(proc), Some(defined)) if from < run.files.len() => {
                     let signature = match &defined.function {
                         Some(function) => Some(carried_function(
                             alloc,
-                            &run.files[from],
-                            &run.files[file],
+                            run.file(from),
+                            run.file(file),
                             from == file,
                             function,
                         )?),
@@ -230,7 +231,8 @@ pub fn file_run<'a, 'b>(
     numbers: &'b Numbers<'a>,
     file: usize,
 ) -> Result<FileRun<'a, 'b>, NoMemory>
-    requires within { file < length run.entry.now.files.items }
+    requires whole { IsWhole run.entry.now }
+    requires within { file < length run.entry.now.files.now }
     requires externals { AreExternals (map file_tree run.entry.now.links.items) externals.now }
     ensures { (fs : List KnownTree) (m : NumbersTree) → AreKnown fs run.entry.now → AreNumbers m numbers.entry.now → IfOk result (λ r. run_seen r ≡ Rules.seen_by fs m file) }
 {
@@ -239,7 +241,7 @@ pub fn file_run<'a, 'b>(
         let name = definition.name.as_slice();
         if names.get(name).is_none() {
             let callee = callee_of(&run.links, file, name);
-            names.insert(name, called(alloc, run, numbers, file, name, callee)?)?;
+            names.insert(name, called_by(alloc, run, numbers, file, name, callee)?)?;
         }
     }
     for external in externals {
@@ -247,13 +249,13 @@ pub fn file_run<'a, 'b>(
         if names.get(name).is_none() {
             names.insert(
                 name,
-                called(alloc, run, numbers, file, name, external.callee)?,
+                called_by(alloc, run, numbers, file, name, external.callee)?,
             )?;
         }
     }
     Ok(FileRun {
         names,
         numbers,
-        structs: &run.files[file].structs,
+        structs: &run.structs[file],
     })
 }

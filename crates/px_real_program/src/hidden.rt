@@ -1,7 +1,8 @@
-ghost use Rattle.std.specs.Prelude.{◌≡◌, ◌<◌, ◌&&◌, List, length, map, flat_map, slice_get, option_map, Some, None, false, Ok, IfOk, OnOk};
+ghost use Rattle.std.specs.Prelude.{◌≡◌, ◌<◌, ◌&&◌, List, length, map, flat_map, slice_get, option_map, Some, None, false, IfOk};
 ghost use Rattle.std.specs.Str.{bytes_eq};
 ghost use Rattle.px_expressions.specs.Reading.{or_else};
 ghost use Rattle.px_real_types.specs.Scopes.{texts};
+ghost use Rattle.px_real_scopes.specs.Lookups as Lookups;
 ghost use Rattle.px_real_scopes.specs.Lookups.{first_said, members_of};
 ghost use Rattle.px_real_scopes.specs.Views.{member_view};
 ghost use Rattle.px_real_program.specs.Files.{texts_of};
@@ -59,7 +60,7 @@ pub fn struct_count(structs: &[Vec<u32>]) -> usize
 }
 
 // The definitions of all files, where so many structs are in the run.
-fn definitions<'a>(
+fn all_definitions<'a>(
     alloc: Global,
     looks: &[Look<'a>],
     structs: &[Vec<u32>],
@@ -96,10 +97,9 @@ fn shown_in<'a>(alloc: Global, look: &Look<'a>) -> Result<Shown<'a>, NoMemory>
     let mut braces = Vec::new(alloc);
     braces.resize(look.after.record_count(), None)?;
     for found in &look.braces {
-        if let Some(place) = braces.get_mut(found.number as usize) {
-            if place.is_none() {
-                *place = Some(found.held);
-            }
+        let at = found.number as usize;
+        if at < braces.len() && braces[at].is_none() {
+            braces[at] = Some(found.held);
         }
     }
     Ok(Shown { braces })
@@ -129,6 +129,16 @@ fn same_braces(a: Option<Texts>, b: Option<Texts>) -> bool
     match (a, b) {
         (Some(a), Some(b)) => same_texts(a, b),
         _ => true,
+    }
+}
+
+// The flag with this number.
+pub fn flag_at(flags: &[bool], number: u32) -> bool
+    ensures { result ≡ Lookups.flag_at flags.now number }
+{
+    match flags.get(number as usize) {
+        Some(flag) => *flag,
+        None => false,
     }
 }
 
@@ -242,7 +252,7 @@ impl<'a, 'b> Files<'a, 'b> {
         for member in members {
             if let Member::Cell { kind, .. } = member.member {
                 if let Base::Struct(number) = kind.base {
-                    if flags.get(number as usize) == Some(&true) {
+                    if flag_at(flags, number) {
                         return true;
                     }
                 }
@@ -268,31 +278,38 @@ impl<'a, 'b> Files<'a, 'b> {
         Ok(flags)
     }
 
-    // And those that point to such ones: whether there are more of them than were flagged.
-    fn spread(
-        &self,
-        alloc: Global,
-        file: usize,
-        flags: &[bool],
-        spread: &mut Vec<bool>,
-    ) -> Result<bool, NoMemory>
+    // And those that point to such ones.
+    fn spread(&self, alloc: Global, file: usize, flags: &[bool]) -> Result<Vec<bool>, NoMemory>
         requires files { AreFiles self.now }
-        requires as_many { (ss : List StructTree) → slice_get (structs_seen self.now) file ≡ Some ss → length flags.now ≡ length ss }
-        ensures spread { (l : LookTree) (ss : List StructTree) → look_seen self.now file ≡ Some l → slice_get (structs_seen self.now) file ≡ Some ss → OnOk result (spread.new.items ≡ Rules.spread_from (all_structs_seen self.now) l flags.now 0 ss) }
-        ensures same { result ≡ Ok false → spread.new.items ≡ flags.now }
+        ensures { (l : LookTree) (ss : List StructTree) → look_seen self.now file ≡ Some l → slice_get (structs_seen self.now) file ≡ Some ss → length flags.now ≡ length ss → IfOk result (λ v. v.items ≡ Rules.spread_from (all_structs_seen self.now) l flags.now 0 ss) }
     {
-        let mut more = false;
-        spread.clear();
+        let mut spread = Vec::new(alloc);
         for number in 0..flags.len() {
             let at = At {
                 file,
                 number: number as u32,
             };
             let flag = flags[number] || (self.is_shared(at) && self.points_to(at, flags));
-            more |= flag != flags[number];
             spread.push(flag)?;
         }
-        Ok(more)
+        Ok(spread)
+    }
+
+    // Those that point to such ones over any number of pointers.
+    fn all_others(&self, alloc: Global, file: usize) -> Result<Vec<bool>, NoMemory>
+        requires files { AreFiles self.now }
+        requires within { file < length self.now.structs.now }
+        ensures { (l : LookTree) (ss : List StructTree) → look_seen self.now file ≡ Some l → slice_get (structs_seen self.now) file ≡ Some ss → IfOk result (λ v. v.items ≡ Rules.spread_over (all_structs_seen self.now) l (length ss) ss) }
+    {
+        let mut flags = self.others(alloc, file)?;
+        for _ in 0..flags.len() {
+            let next = self.spread(alloc, file, &flags)?;
+            if next.as_slice() == flags.as_slice() {
+                break;
+            }
+            flags = next;
+        }
+        Ok(flags)
     }
 
     // Those of which the file sees nothing.
@@ -301,20 +318,15 @@ impl<'a, 'b> Files<'a, 'b> {
         requires within { file < length self.now.structs.now }
         ensures { (l : LookTree) (ss : List StructTree) → look_seen self.now file ≡ Some l → slice_get (structs_seen self.now) file ≡ Some ss → IfOk result (λ v. v.items ≡ Rules.hidden_in (all_structs_seen self.now) l ss) }
     {
-        let mut flags = self.others(alloc, file)?;
-        let mut next = Vec::new(alloc);
-        for _ in 0..flags.len() {
-            if !self.spread(alloc, file, &flags, &mut next)? {
-                break;
-            }
-            std::mem::swap(&mut flags, &mut next);
-        }
+        let mut flags = self.all_others(alloc, file)?;
         for number in 0..flags.len() {
             let at = At {
                 file,
                 number: number as u32,
             };
-            flags[number] |= self.is_large(at);
+            if self.is_large(at) {
+                flags[number] = true;
+            }
         }
         Ok(flags)
     }
@@ -337,7 +349,7 @@ pub fn all_hidden<'a>(
         looks,
         structs,
         shown,
-        definitions: definitions(alloc, looks, structs, struct_count(structs))?,
+        definitions: all_definitions(alloc, looks, structs, struct_count(structs))?,
     };
     let mut all = Vec::new(alloc);
     for file in 0..looks.len() {

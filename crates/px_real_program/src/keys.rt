@@ -68,17 +68,15 @@ fn take_word<'a>(scopes: &Scopes, word: &'a [u8], keys: &mut [Key<'a>])
     ensures { map key_view keys.new ≡ all_taken scopes.now.bindings word.entry.now 0 (map key_view keys.old) }
 {
     if let Some(number) = tagged_by(scopes, word) {
-        if let Some(key) = keys.get_mut(number as usize) {
-            if !matches!(*key, Key::Tag(_)) {
-                *key = Key::Tag(word);
-            }
+        let at = number as usize;
+        if at < keys.len() && !matches!(keys[at], Key::Tag(_)) {
+            keys[at] = Key::Tag(word);
         }
     }
     if let Some(number) = named_by(scopes, word) {
-        if let Some(key) = keys.get_mut(number as usize) {
-            if matches!(*key, Key::Place) {
-                *key = Key::Typedef(word);
-            }
+        let at = number as usize;
+        if at < keys.len() && matches!(keys[at], Key::Place) {
+            keys[at] = Key::Typedef(word);
         }
     }
 }

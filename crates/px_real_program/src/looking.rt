@@ -377,7 +377,7 @@ fn add_braces_of<'a>(
 }
 
 /// A look over a file: of the structs that are flagged nothing is seen. What the functions do is let go, as far as nothing is known of the run.
-pub fn look<'a>(
+pub fn look_over<'a>(
     alloc: Global,
     hidden: Vec<bool>,
     file: &'a RealFile,

@@ -2,7 +2,7 @@ ghost use Rattle.std.specs.Prelude.{◌≡◌, ◌++◌, List, map, option_map, 
 ghost use Rattle.px_syntax.specs.ProgramTree.{procedure_tree};
 ghost use Rattle.px_real_program.specs.Numbers.{KnownFile as KnownTree, NumbersTree, seen_by};
 ghost use Rattle.px_real_program.specs.Programs as Rules;
-ghost use Rattle.px_real_program.specs.Steps.{AreKnown, IsKnown, AreNumbers, run_seen};
+ghost use Rattle.px_real_program.specs.Steps.{AreKnown, IsKnown, IsWhole, AreNumbers, run_seen};
 ghost use Rattle.px_real_program.specs.Views.{defined_view};
 
 use crate::carrying::{FileRun, externals, file_run};
@@ -32,16 +32,16 @@ fn procedure_of(proc: ProcId, defined: Defined) -> Option<Procedure>
 // The procedures of the kept functions of a file, after those of others.
 fn add_procedures(
     alloc: Global,
-    known: &KnownFile,
+    known: KnownFile,
     run: &FileRun,
     numbers: &Numbers,
     file: usize,
     procedures: &mut Vec<Procedure>,
 ) -> Result<(), NoMemory>
-    ensures { (fs : List KnownTree) (m : NumbersTree) (f : KnownTree) → IsKnown f known.now → AreNumbers m numbers.now → run_seen run.now ≡ seen_by fs m file → OnOk result (map procedure_tree procedures.new.items ≡ map procedure_tree procedures.old.items ++ Rules.procedures_in fs m file f) }
+    ensures { (fs : List KnownTree) (m : NumbersTree) (f : KnownTree) → IsKnown f known.entry → AreNumbers m numbers.now → run_seen run.now ≡ seen_by fs m file → OnOk result (map procedure_tree procedures.new.items ≡ map procedure_tree procedures.old.items ++ Rules.procedures_in fs m file f) }
 {
     let on = known.file.texts();
-    let hidden = Vec::from_slice(alloc, &known.hidden)?;
+    let hidden = Vec::from_slice(alloc, known.hidden)?;
     let mut scopes = Scopes::new(alloc, hidden);
     let mut number = 0;
     for item in &known.file.items {
@@ -65,6 +65,7 @@ pub fn procedures(
     run: &KnownRun,
     numbers: &Numbers,
 ) -> Result<Vec<Procedure>, NoMemory>
+    requires { IsWhole run.now }
     ensures { (fs : List KnownTree) (m : NumbersTree) → AreKnown fs run.now → AreNumbers m numbers.now → IfOk result (λ ps. map procedure_tree ps.items ≡ Rules.procedures fs m) }
 {
     let external = externals(alloc, run)?;
@@ -73,7 +74,7 @@ pub fn procedures(
         let own = file_run(alloc, run, &external, numbers, file)?;
         add_procedures(
             alloc,
-            &run.files[file],
+            run.file(file),
             &own,
             numbers,
             file,

@@ -11,7 +11,7 @@ ghost use Rattle.px_real_program.specs.Numbers.{KnownFile as KnownTree, NumbersT
 ghost use Rattle.px_real_program.specs.Sights.{Sight, in_procedure};
 ghost use Rattle.px_real_program.specs.Programs as Rules;
 ghost use Rattle.px_real_program.specs.Programs.{program_of};
-ghost use Rattle.px_real_program.specs.Steps.{AreKnown, AreNumbers, AreTypesNumbered, AreSeen, AreSeenStructs, AreKeptNumbers, IsNamed, left_view};
+ghost use Rattle.px_real_program.specs.Steps.{AreKnown, IsWhole, AreNumbers, AreTypesNumbered, AreSeen, AreSeenStructs, AreKeptNumbers, IsNamed, left_view};
 ghost use Rattle.px_real_program.specs.Views.{file_view, run_view};
 
 use crate::asked::Reason;
@@ -84,9 +84,9 @@ fn kept_numbers(
 {
     let mut all = Vec::new(alloc);
     let mut next: u32 = 0;
-    for known in &run.files {
+    for known in &run.kept {
         let mut own = Vec::new(alloc);
-        for kept in &known.kept.kept {
+        for kept in &known.kept {
             if *kept {
                 own.push(Some(next))?;
                 let Some(after) = next.checked_add(1) else {
@@ -139,11 +139,12 @@ fn numbers_of<'a>(
 }
 
 // What stands in the procedures of a run, in the numbers of all that there may be.
-fn sights_of<'a>(
+fn sights_of(
     alloc: Global,
-    run: &KnownRun<'a>,
-    texts: &IndexSet<&'a [u8]>,
+    run: &KnownRun,
+    texts: &IndexSet<&[u8]>,
 ) -> Result<Sights, NoMemory>
+    requires { IsWhole run.now }
     ensures { (files : List FileTree) → AreKnown (known_files files) run.now → map (λ w. w.now) texts.now.keys ≡ Rules.all_texts files → IfOk result (λ s. AreSeen (let m = Rules.all_numbers files (known_files files) in flat_map in_procedure (Rules.procedures (known_files files) m)) s) }
 {
     let numbers = numbers_of(alloc, run, texts, texts, TypeIds::All, texts)?;
@@ -160,25 +161,26 @@ fn sights_of<'a>(
 
 // An item that is left out.
 #[derive(Clone, Copy)]
-struct LeftItem<'b, 'a> {
+struct LeftItem<'b> {
     file: usize,
-    defined: &'b Defined<'a>,
+    defined: &'b Defined<'b>,
     reason: Reason,
 }
 
 // The items that are left out, in order.
-fn left_items<'b, 'a>(
+fn left_items<'b>(
     alloc: Global,
-    run: &'b KnownRun<'a>,
-) -> Result<Vec<LeftItem<'b, 'a>>, NoMemory>
+    run: &'b KnownRun<'b>,
+) -> Result<Vec<LeftItem<'b>>, NoMemory>
+    requires { IsWhole run.entry.now }
     ensures { (fs : List KnownTree) → AreKnown fs run.entry.now → IfOk result (λ v. map left_view v.items ≡ Rules.left_in 0 fs) }
 {
     let mut all = Vec::new(alloc);
     for file in 0..run.files.len() {
-        let known = &run.files[file];
-        for number in 0..known.kept.left.len() {
-            if let Some(reason) = known.kept.left[number] {
-                let defined = &known.look.defined[number];
+        let left = &run.kept[file].left;
+        for number in 0..left.len() {
+            if let Some(reason) = left[number] {
+                let defined = &run.looks[file].defined[number];
                 all.push(LeftItem {
                     file,
                     defined,
@@ -201,10 +203,10 @@ fn kept_there(run: &KnownRun, file: usize, name: &[u8]) -> Option<(usize, usize)
 }
 
 // The names of the items that are left out, but those that their files keep.
-fn out_names<'b, 'a>(
+fn out_names<'b>(
     alloc: Global,
-    run: &KnownRun<'a>,
-    left: &[LeftItem<'b, 'a>],
+    run: &KnownRun,
+    left: &[LeftItem<'b>],
 ) -> Result<IndexSet<&'b [u8]>, NoMemory>
     ensures { (fs : List KnownTree) → AreKnown fs run.now → map left_view left.now ≡ Rules.left_in 0 fs → IfOk result (λ s. map (λ w. w.now) s.keys ≡ Rules.out_names fs) }
 {
@@ -221,15 +223,13 @@ fn out_names<'b, 'a>(
 }
 
 // The names of called functions that aren't kept are taken in: those that are left out, and those that no file defines.
-fn add_called<'b, 'a>(
+fn add_called<'b>(
     kept: u32,
-    texts: &IndexSet<&'a [u8]>,
+    texts: &IndexSet<&'b [u8]>,
     functions: &IndexSet<u32>,
     out: &mut IndexSet<&'b [u8]>,
     unknown: &mut IndexSet<&'b [u8]>,
 ) -> Result<(), NoMemory>
-where
-    'a: 'b,
     ensures out { (m : NumbersTree) → length m.kept ≡ kept → m.out ≡ map (λ w. w.now) texts.now.keys → m.unknown ≡ m.out → OnOk result (map (λ w. w.now) out.new.keys ≡ insert_all bytes_eq (map (λ w. w.now) out.old.keys) (filter_map (Rules.out_at m) functions.now.keys)) }
     ensures unknown { (m : NumbersTree) → length m.kept ≡ kept → m.out ≡ map (λ w. w.now) texts.now.keys → m.unknown ≡ m.out → OnOk result (map (λ w. w.now) unknown.new.keys ≡ insert_all bytes_eq (map (λ w. w.now) unknown.old.keys) (filter_map (Rules.unknown_at m) functions.now.keys)) }
 {
@@ -278,13 +278,15 @@ fn copied(alloc: Global, names: &IndexSet<&[u8]>, all: &mut Items<Name>) -> Resu
 
 // The names of the functions that are kept.
 fn kept_names(alloc: Global, run: &KnownRun) -> Result<Items<Name>, NoMemory>
+    requires { IsWhole run.now }
     ensures { (fs : List KnownTree) → AreKnown fs run.now → IfOk result (λ v. v ≡ map (Rules.kept_name fs) (kept_places 0 fs)) }
 {
     let mut names = Items::new(alloc);
-    for known in &run.files {
-        for number in 0..known.kept.kept.len() {
-            if known.kept.kept[number] {
-                let name = match &known.look.defined[number].name {
+    for file in 0..run.files.len() {
+        let kept = &run.kept[file].kept;
+        for number in 0..kept.len() {
+            if kept[number] {
+                let name = match &run.looks[file].defined[number].name {
                     Some(name) => Name::from_slice(alloc, name.as_slice())?,
                     None => Name::from_slice(alloc, &[])?,
                 };
@@ -355,16 +357,14 @@ struct Named<'b> {
 }
 
 // What they name, by what is seen in their procedures.
-fn named_by<'b, 'a>(
+fn named_by<'b>(
     alloc: Global,
-    run: &KnownRun<'a>,
+    run: &KnownRun,
     seen: &SeenStructs,
-    left: &[LeftItem<'b, 'a>],
-    texts: &IndexSet<&'a [u8]>,
+    left: &[LeftItem<'b>],
+    texts: &IndexSet<&'b [u8]>,
     sights: &Sights,
 ) -> Result<Named<'b>, NoMemory>
-where
-    'a: 'b,
     ensures { (files : List FileTree) (ss : List Sight) → AreKnown (known_files files) run.now → AreSeenStructs (known_files files) seen.now → map left_view left.now ≡ Rules.left_in 0 (known_files files) → map (λ w. w.now) texts.now.keys ≡ Rules.all_texts files → AreSeen ss sights.now → IfOk result (IsNamed (length (Rules.out_names (known_files files))) (Rules.narrowed (known_files files) (Rules.all_numbers files (known_files files)) ss)) }
 {
     let mut out = out_names(alloc, run, left)?;
@@ -392,6 +392,7 @@ fn assembled(
     numbers: &Numbers,
     procedures: Vec<Procedure>,
 ) -> Result<RealProgram, ProgramFault>
+    requires { IsWhole run.now }
     ensures program { (m : NumbersTree) → let fs = known_files (map file_view files.now) in AreKnown fs run.now → AreSeenStructs fs seen.now → map left_view left.now ≡ Rules.left_in 0 fs → IsNamed (length (Rules.out_names fs)) m named.now → AreNumbers m numbers.now → m.kept ≡ kept_places 0 fs → map procedure_tree procedures.items ≡ Rules.procedures fs m → IfOk result (λ r. run_view r ≡ Rules.program_with (map file_view files.now) fs m) }
     ensures few { IfOk result (λ r. r.program.kept ≤ most_procedures) }
     ensures many { (n : ℕ) → IsErrOf result (Procedures n) → (n ≡ length procedures.items) × (most_procedures < n) }

@@ -1,10 +1,10 @@
 ghost use Rattle.std.specs.Prelude.{◌≡◌, List, option_map, IfOk};
 ghost use Rattle.px_real_program.specs.Numbers.{KnownFile as KnownTree};
 ghost use Rattle.px_real_program.specs.Programs as Rules;
-ghost use Rattle.px_real_program.specs.Steps.{AreKnown, AreSeenStructs};
+ghost use Rattle.px_real_program.specs.Steps.{AreKnown, IsWhole, AreSeenStructs};
 
 use crate::fields::in_run;
-use crate::hidden::At;
+use crate::hidden::{At, flag_at};
 use crate::known::KnownRun;
 use px_real_types::{Base, Member, ProfileType};
 use px_terms::NoMemory;
@@ -19,20 +19,20 @@ pub struct SeenStructs {
 impl SeenStructs {
     /// Those of a run.
     pub fn new(alloc: Global, run: &KnownRun) -> Result<SeenStructs, NoMemory>
+        requires { IsWhole run.now }
         ensures { (fs : List KnownTree) → AreKnown fs run.now → IfOk result (AreSeenStructs fs) }
     {
         let mut first = Vec::new(alloc);
-        first.resize(run.structs, None)?;
+        first.resize(run.count, None)?;
         for file in 0..run.files.len() {
-            let known = &run.files[file];
+            let known = run.file(file);
             for at in 0..known.structs.len() {
                 let number = at as u32;
                 let is_seen =
-                    known.hidden.get(at) != Some(&true) && known.look.after.is_defined(number);
-                if let Some(place) = first.get_mut(known.structs[at] as usize) {
-                    if is_seen && place.is_none() {
-                        *place = Some(At { file, number });
-                    }
+                    !flag_at(known.hidden, number) && known.look.after.is_defined(number);
+                let place = known.structs[at] as usize;
+                if is_seen && place < first.len() && first[place].is_none() {
+                    first[place] = Some(At { file, number });
                 }
             }
         }
@@ -51,16 +51,19 @@ impl SeenStructs {
         let Some(Some(at)) = self.first.get(number as usize) else {
             return Ok(None);
         };
-        let Some(known) = run.files.get(at.file) else {
+        let Some(look) = run.looks.get(at.file) else {
             return Ok(None);
         };
-        let Some(members) = known.look.after.members(at.number) else {
+        let Some(members) = look.after.members(at.number) else {
+            return Ok(None);
+        };
+        let Some(structs) = run.structs.get(at.file) else {
             return Ok(None);
         };
         let mut cells = Vec::new(alloc);
         for member in members {
             if let Member::Cell { kind, .. } = member.member {
-                cells.push(in_run(&known.structs, kind))?;
+                cells.push(in_run(structs, kind))?;
             }
         }
         if cells.is_empty() {

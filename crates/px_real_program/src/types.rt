@@ -102,9 +102,9 @@ fn struct_in(kind: ProfileType) -> Option<u32>
 
 // How many types there may be.
 fn most_types(run: &KnownRun) -> usize
-    ensures { result ≡ (run.now.structs + 1) * 3 }
+    ensures { result ≡ (run.now.count + 1) * 3 }
 {
-    run.structs.saturating_add(1).saturating_mul(3)
+    run.count.saturating_add(1).saturating_mul(3)
 }
 
 /// The block types that are named, an int first, by the codes of those that stand in trees; and what their cells lead to.
