@@ -9,7 +9,7 @@ use Rattle.px_real_statements.specs.StatementTree.{StatementTree, statements_of}
 use Rattle.px_real_declarations.specs.DeclarationTree.{DeclarationTree, HeadTree}
 use Rattle.px_real_types.specs.declared.shape.ProfileType.{ProfileType}
 use Rattle.px_real_types.specs.Types.{int, known, pointee}
-use Rattle.px_real_scopes.specs.Scopes.{an_object, FunctionTree, Scopes}
+use Rattle.px_real_scopes.specs.Scopes.{an_object, Scopes}
 use Rattle.px_real_scopes.specs.Lookups.{entered, left}
 use Rattle.px_real_scopes.specs.Behind.{with_name, with_local, behind_parameters}
 use Rattle.px_real_bodies.specs.Environments.{Run}

@@ -1,5 +1,5 @@
 -- What the head of a definition says of its parameters (C11 6.9.1).
-use Rattle.std.specs.Prelude.{ℕ, List, [], ◌∷◌, map, Bool, true, false, ◌&&◌, Option, Some, None, if◌then◌else◌}
+use Rattle.std.specs.Prelude.{ℕ, List, [], ◌∷◌, map, Bool, true, ◌&&◌, Option, Some, None, if◌then◌else◌}
 use Rattle.px_expressions.specs.Reading.{or_else}
 use Rattle.px_expressions.specs.Terminals.{is_in}
 use Rattle.px_real_declarations.specs.DeclarationTree.{DeclaredTree, DeclarationTree, declaration, assertion, ParametersTree, parameters, identifiers, HeadTree}

@@ -1,6 +1,6 @@
 -- The name of what has the shape of a function and isn't read: the first word directly before a parenthesis, outside of attributes, that is no
 -- keyword and no name of a type.
-use Rattle.std.specs.Prelude.{ℕ, zero, suc, List, [], ◌∷◌, Bool, true, false, ◌&&◌, not, Option, Some, None, if◌then◌else◌}
+use Rattle.std.specs.Prelude.{ℕ, zero, suc, List, [], ◌∷◌, Bool, false, ◌&&◌, not, Option, Some, None, if◌then◌else◌}
 use Rattle.px_expressions.specs.Terminals.{is_in}
 use Rattle.px_real_cutting.specs.Roles.{own_words}
 use Rattle.px_real_declarations.specs.Grammar.{Types}

@@ -1,5 +1,5 @@
 -- What the code has, as plain data.
-use Rattle.std.specs.Prelude.{ℕ, List}
+use Rattle.std.specs.Prelude.{List}
 use Rattle.px_syntax.specs.TypedViews.{typed_statement}
 use Rattle.px_real_expressions.specs.Lexemes.{Lexeme}
 use Rattle.px_real_symbols.specs.Symbols.{held_in}

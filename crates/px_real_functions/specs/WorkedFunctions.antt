@@ -1,6 +1,6 @@
 -- Definitions that were worked by hand, from their texts on. In scope are T, a name of int; struct s, number 0, with the cells v, an int, and n, a
 -- `struct s *`, and a char c; union u, number 1; gc, a global char, and gp, a global `int *`.
-use Rattle.std.specs.Prelude.{◌≡◌, ℕ, zero, suc, ◌+◌, ◌-◌, ◌*◌, pos, List, [], ◌∷◌, ◌++◌, length, reverse, Bool, true, false, ◌||◌, ◌&&◌, Option, Some, None, codes, nat_eq, nat_lt, if◌then◌else◌}
+use Rattle.std.specs.Prelude.{◌≡◌, ℕ, ◌+◌, ◌-◌, ◌*◌, pos, List, [], ◌∷◌, ◌++◌, length, reverse, Bool, true, false, ◌||◌, ◌&&◌, Option, Some, None, codes, nat_eq, nat_lt, if◌then◌else◌}
 use Rattle.std.specs.Str.{bytes_eq}
 use Rattle.px_base.specs.declared.trace.Site.{Site}
 use Rattle.px_terms.specs.declared.types.ValueType.{ValueType}
@@ -20,7 +20,6 @@ use Rattle.px_real_declarations.specs.HeldReading.{head_at}
 use Rattle.px_real_declarations.specs.WorkedDeclarations.{column}
 use Rattle.px_real_declaring.specs.Items.{nesting_limit}
 use Rattle.px_real_names.specs.Enumerated.{as_whole}
-use Rattle.px_real_types.specs.declared.known.Known.TheVariants as N
 use Rattle.px_real_types.specs.declared.known.Member.TheVariants as M
 use Rattle.px_real_types.specs.declared.shape.ProfileType.{ProfileType}
 use Rattle.px_real_types.specs.Types.{int, struct, pointer_to, unknown, known}

@@ -1,7 +1,5 @@
 ghost use Rattle.std.specs.Prelude.{◌≡◌, ◌<◌, ◌^◌, map, option_map, length, IfOk, OnOk};
-ghost use Rattle.px_syntax.specs.TypedViews.{typed_statement};
 ghost use Rattle.px_real_symbols.specs.Symbols.{held_in};
-ghost use Rattle.px_real_statements.specs.StatementTree.{statements_of};
 ghost use Rattle.px_real_blocks.specs.Trees.{statement_tree};
 ghost use Rattle.px_real_declaring.specs.Trees.{declaration_tree};
 ghost use Rattle.px_real_members.specs.Trees.{parameters_tree, head_tree};

@@ -1,10 +1,9 @@
 ghost use Rattle.std.specs.Prelude.{◌≡◌, map, option_map, Some, IfOk};
 ghost use Rattle.px_real_symbols.specs.Symbols.{held_in};
-ghost use Rattle.px_real_declaring.specs.Trees.{declaration_tree};
 ghost use Rattle.px_real_members.specs.Trees.{parameters_tree, head_tree};
 ghost use Rattle.px_real_types.specs.Scopes.{texts};
 ghost use Rattle.px_real_types.specs.declared.shape.Shape.TheVariants.{Outside};
-ghost use Rattle.px_real_types.specs.Declarators.{function_in, signature_tree};
+ghost use Rattle.px_real_types.specs.Declarators.{function_in};
 ghost use Rattle.px_real_scopes.specs.Functions.{parameters_in};
 ghost use Rattle.px_real_scopes.specs.Views.{function_view};
 ghost use Rattle.px_real_functions.specs.Parameters as Rules;

@@ -1,7 +1,6 @@
 -- The structs of which a file sees nothing: those that have too many cells, and those that other files define otherwise.
-use Rattle.std.specs.Prelude.{ℕ, zero, suc, ◌+◌, List, [], ◌∷◌, ◌++◌, map, flat_map, length, Bool, true, false, ◌&&◌, ◌||◌, not, Option, Some, None, is_some, nat_eq, nat_lt, if◌then◌else◌}
+use Rattle.std.specs.Prelude.{ℕ, zero, suc, ◌+◌, List, [], ◌∷◌, map, flat_map, length, Bool, true, false, ◌&&◌, ◌||◌, not, Option, Some, None, is_some, nat_eq, nat_lt, if◌then◌else◌}
 use Rattle.std.specs.Str.{bytes_eq}
-use Rattle.px_expressions.specs.Reading.{or_else}
 use Rattle.px_real_types.specs.declared.shape.Base.{Base}
 use Rattle.px_real_types.specs.declared.shape.Base.TheVariants as B
 use Rattle.px_real_types.specs.declared.shape.ProfileType.{ProfileType}

@@ -1,11 +1,10 @@
 -- A look over a file, item by item: what is in scope, and what the functions are that it defines.
-use Rattle.std.specs.Prelude.{ℕ, List, [], ◌∷◌, ◌++◌, map, flat_map, Bool, true, false, Option, Some, None, if◌then◌else◌}
+use Rattle.std.specs.Prelude.{ℕ, List, [], ◌∷◌, ◌++◌, map, flat_map, Bool, true, false, Option, Some, None}
 use Rattle.px_base.specs.declared.trace.Site.{Site}
-use Rattle.px_base.specs.declared.trace.ProcId.{ProcId}
 use Rattle.px_expressions.specs.Reading.{or_else}
 use Rattle.px_real_expressions.specs.Lexemes.{Lexeme}
 use Rattle.px_real_statements.specs.StatementTree.{StatementTree}
-use Rattle.px_real_declarations.specs.DeclarationTree.{SpecifierTree, tagged, DeclarationTree, declaration, assertion, HeadTree}
+use Rattle.px_real_declarations.specs.DeclarationTree.{SpecifierTree, tagged, declaration, assertion, HeadTree}
 use Rattle.px_real_declarations.specs.Names.{declared_name}
 use Rattle.px_real_types.specs.declared.shape.Base.TheVariants as B
 use Rattle.px_real_types.specs.declared.shape.Shape.{Shape}

@@ -1,9 +1,9 @@
 -- The numbers of a run: of functions, block types and words, and what each file sees by them.
-use Rattle.std.specs.Prelude.{ℕ, zero, suc, ◌+◌, List, [], ◌∷◌, ◌++◌, map, flat_map, filter_map, length, slice_get, Bool, true, false, ◌&&◌, Option, Some, None, is_some, option_map, nat_eq, nat_lt, if◌then◌else◌}
+use Rattle.std.specs.Prelude.{ℕ, ◌+◌, List, [], ◌∷◌, ◌++◌, map, flat_map, length, slice_get, Bool, true, false, ◌&&◌, Option, Some, None, is_some, option_map, nat_eq, if◌then◌else◌}
 use Rattle.std.specs.Str.{bytes_eq}
 use Rattle.px_base.specs.declared.trace.ProcId.{ProcId}
 use Rattle.px_expressions.specs.Reading.{or_else}
-use Rattle.px_typing.specs.Sights.{first_sights, number_in}
+use Rattle.px_typing.specs.Sights.{number_in}
 use Rattle.px_real_types.specs.declared.shape.ProfileType.{ProfileType}
 use Rattle.px_real_types.specs.Types.{same_type}
 use Rattle.px_real_values.specs.Environment.{Signature}
@@ -18,7 +18,7 @@ use Rattle.px_real_program.specs.Files.{PieceTree, FileTree}
 use Rattle.px_real_program.specs.Looks.{DefinedTree, LookTree, look, bare, no_run}
 use Rattle.px_real_program.specs.Structs.{keys_of_files, all_keys, run_numbers, in_run, in_file, StructTree, structs_in}
 use Rattle.px_real_program.specs.Hidden.{hidden_in}
-use Rattle.px_real_program.specs.Keeping.{AskedTree, asked_in, named_in, kept_flags, left_words, links_of}
+use Rattle.px_real_program.specs.Keeping.{asked_in, named_in, kept_flags, left_words, links_of}
 
 -- ---- what is known of a file of the run
 

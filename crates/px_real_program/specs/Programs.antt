@@ -1,5 +1,5 @@
 -- The program that the files of a run say.
-use Rattle.std.specs.Prelude.{ℕ, zero, suc, ◌+◌, ◌-◌, List, [], ◌∷◌, ◌++◌, map, flat_map, filter_map, length, slice_get, Bool, true, false, ◌&&◌, not, Option, Some, None, is_some, option_map, option_and_then, option_to_list, nat_eq, nat_lt, codes, if◌then◌else◌}
+use Rattle.std.specs.Prelude.{ℕ, zero, suc, ◌+◌, ◌-◌, List, [], ◌∷◌, ◌++◌, map, flat_map, filter_map, length, slice_get, Bool, true, false, Option, Some, None, option_map, option_and_then, option_to_list, nat_eq, nat_lt, codes, if◌then◌else◌}
 use Rattle.std.specs.Str.{bytes_eq}
 use Rattle.px_base.specs.declared.trace.ProcId.{ProcId}
 use Rattle.px_terms.specs.declared.types.ValueType.{ValueType}
@@ -19,7 +19,7 @@ use Rattle.px_real_links.specs.declared.callee.Callee.{Callee}
 use Rattle.px_real_links.specs.declared.callee.Callee.TheVariants as C
 use Rattle.px_real_functions.specs.Definitions.{MadeTree}
 use Rattle.px_real_program.specs.Files.{FileTree, file_texts}
-use Rattle.px_real_program.specs.Looks.{DefinedTree, LookTree, look}
+use Rattle.px_real_program.specs.Looks.{DefinedTree, look}
 use Rattle.px_real_program.specs.Structs.{FieldTree, StructTree, structs_in, cells_of}
 use Rattle.px_real_program.specs.Keeping.{name_or_none}
 use Rattle.px_real_program.specs.Sights.{Sight, in_procedure, function_seen, block_seen, word_seen}

@@ -1,5 +1,5 @@
 -- The structs and unions of a run: which of them are one type, and what is the definition of each (C11 6.2.7).
-use Rattle.std.specs.Prelude.{ℕ, zero, suc, ◌+◌, ◌-◌, List, [], ◌∷◌, ◌++◌, map, flat_map, length, slice_get, Bool, true, false, ◌&&◌, ◌||◌, not, Option, Some, None, is_some, option_map, nat_eq, nat_lt, if◌then◌else◌}
+use Rattle.std.specs.Prelude.{ℕ, ◌+◌, ◌-◌, List, [], ◌∷◌, map, flat_map, length, slice_get, Bool, false, ◌&&◌, Option, Some, None, option_map, nat_eq, if◌then◌else◌}
 use Rattle.std.specs.Str.{bytes_eq}
 use Rattle.px_expressions.specs.Reading.{or_else}
 use Rattle.px_typing.specs.Sights.{first_sights, number_in}
@@ -9,7 +9,7 @@ use Rattle.px_real_types.specs.declared.shape.ProfileType.{ProfileType}
 use Rattle.px_real_types.specs.declared.known.Member.{Member}
 use Rattle.px_real_types.specs.declared.known.Member.TheVariants as M
 use Rattle.px_real_types.specs.Types.{record_in}
-use Rattle.px_real_scopes.specs.Scopes.{BindingTree, NamedTree, Scopes}
+use Rattle.px_real_scopes.specs.Scopes.{BindingTree, NamedTree}
 use Rattle.px_real_scopes.specs.Lookups.{first_said, tag_of, number_in as number_in_tag, known_type, members_of}
 use Rattle.px_real_program.specs.Files.{FileTree, file_texts}
 use Rattle.px_real_program.specs.Looks.{BracesTree, LookTree}

@@ -1,5 +1,5 @@
 -- Programs of one file and of several that were worked by hand, from their texts on: each item stands on a line of its own.
-use Rattle.std.specs.Prelude.{◌≡◌, ℕ, suc, ◌+◌, List, [], ◌∷◌, map, length, take, drop, reverse, filter_map, Bool, true, false, not, Option, Some, None, is_some, option_map, codes, if◌then◌else◌}
+use Rattle.std.specs.Prelude.{◌≡◌, ℕ, ◌+◌, List, [], ◌∷◌, map, take, drop, reverse, filter_map, Bool, not, Option, Some, None, is_some, option_map, codes, if◌then◌else◌}
 use Rattle.px_base.specs.declared.trace.Site.{Site}
 use Rattle.px_base.specs.declared.trace.ProcId.{ProcId}
 use Rattle.px_terms.specs.declared.types.ValueType.{ValueType}
@@ -7,7 +7,7 @@ use Rattle.px_terms.specs.declared.types.ValueType.TheVariants as V
 use Rattle.px_terms.specs.declared.types.BlockType.{BlockType}
 use Rattle.px_terms.specs.declared.types.BlockType.TheVariants as K
 use Rattle.px_syntax.specs.declared.program.Left.{Left}
-use Rattle.px_syntax.specs.ProgramTree.{ProcedureTree, ProgramTree}
+use Rattle.px_syntax.specs.ProgramTree.{ProcedureTree}
 use Rattle.px_expressions.specs.Reading.{or_else}
 use Rattle.px_real_expressions.specs.declared.terminal.Terminal.TheVariants as T
 use Rattle.px_real_expressions.specs.Lexemes.{Lexeme, front}
@@ -21,7 +21,7 @@ use Rattle.px_real_scopes.specs.Scopes.{Scopes, nothing_in_scope}
 use Rattle.px_real_scopes.specs.Lookups.{are_types}
 use Rattle.px_real_items.specs.Externals.{ExternalTree, declares, defines}
 use Rattle.px_real_items.specs.Trees.{all_but_last}
-use Rattle.px_real_items.specs.Ends.{body_start, opening_at}
+use Rattle.px_real_items.specs.Ends.{body_start}
 use Rattle.px_real_functions.specs.WorkedFunctions.{lexed}
 use Rattle.px_real_program.specs.Files.{PieceTree, FileTree}
 use Rattle.px_real_program.specs.Looks.{step, no_run}

@@ -4,7 +4,6 @@ ghost use Rattle.px_real_scopes.specs.Views.{function_view};
 ghost use Rattle.px_real_bodies.specs.Environments.{library_of};
 ghost use Rattle.px_real_program.specs.Structs.{in_file, in_run};
 ghost use Rattle.px_real_program.specs.Numbers.{KnownFile as KnownTree, NumbersTree};
-ghost use Rattle.px_real_values.specs.Views.{signature_seen};
 ghost use Rattle.px_real_program.specs.Numbers as Rules;
 ghost use Rattle.px_real_program.specs.Steps.{AreKnown, IsWhole, AreNumbers, IsPlaces, AreExternals, run_seen, carried_view, called_view};
 ghost use Rattle.px_real_links.specs.Files.{file_tree};

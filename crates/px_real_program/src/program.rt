@@ -153,7 +153,8 @@ fn sights_of(
         blocks: IndexSet::new(alloc),
         words: IndexSet::new(alloc),
     };
-    for procedure in &procedures(alloc, run, &numbers)? {
+    let all = procedures(alloc, run, &numbers)?;
+    for procedure in &all {
         sights.see_procedure(procedure)?;
     }
     Ok(sights)
