@@ -319,8 +319,7 @@ pub record AreExternals (ls : List Links.FileTree) (xs : List External) : Type 0
   pub callees : AllByRecursion (λ x. x.callee ≡ callee_of ls (length ls) x.name.now) xs
 
 -- where the kept functions stand by their numbers
-pub record AreKeptNumbers (places : List Place) (kept : List (Vec (Option ℕ) Global)) (count : ℕ) : Type 0 where
-  pub count : count ≡ length places
+pub record AreKeptNumbers (places : List Place) (kept : List (Vec (Option ℕ) Global)) : Type 0 where
   pub numbers : (file n : ℕ) → IfSome (or_else (slice_get kept file) (λ ns. or_else (slice_get ns.items n) (λ o. o) None) None) (λ i. i ≡ number_in same_place places (file, n))
   pub all : (file n : ℕ) → is_some (or_else (slice_get kept file) (λ ns. or_else (slice_get ns.items n) (λ o. o) None) None) ≡ list_any (same_place (file, n)) places
 

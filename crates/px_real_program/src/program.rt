@@ -75,12 +75,24 @@ fn all_texts<'a>(alloc: Global, files: &'a [RealFile]) -> Result<IndexSet<&'a [u
     Ok(texts)
 }
 
-// The numbers of the functions that are kept, in order, and how many there are.
-fn kept_numbers(
-    alloc: Global,
-    run: &KnownRun,
-) -> Result<(Vec<Vec<Option<u32>>>, u32), NoMemory>
-    ensures { (fs : List KnownTree) → AreKnown fs run.now → IfOk result (λ x. AreKeptNumbers (kept_places 0 fs) x.0.items x.1) }
+// How many functions are kept.
+fn kept_count(run: &KnownRun) -> Result<u32, NoMemory>
+    ensures { (fs : List KnownTree) → AreKnown fs run.now → IfOk result (λ n. n ≡ length (kept_places 0 fs)) }
+{
+    let mut count: u32 = 0;
+    for known in &run.kept {
+        for kept in &known.kept {
+            if *kept {
+                count = behind(count, 1)?;
+            }
+        }
+    }
+    Ok(count)
+}
+
+// The numbers of the functions that are kept, in order.
+fn kept_numbers(alloc: Global, run: &KnownRun) -> Result<Vec<Vec<Option<u32>>>, NoMemory>
+    ensures { (fs : List KnownTree) → AreKnown fs run.now → IfOk result (λ v. AreKeptNumbers (kept_places 0 fs) v.items) }
 {
     let mut all = Vec::new(alloc);
     let mut next: u32 = 0;
@@ -89,17 +101,14 @@ fn kept_numbers(
         for kept in &known.kept {
             if *kept {
                 own.push(Some(next))?;
-                let Some(after) = next.checked_add(1) else {
-                    return Err(NoMemory);
-                };
-                next = after;
+                next = behind(next, 1)?;
             } else {
                 own.push(None)?;
             }
         }
         all.push(own)?;
     }
-    Ok((all, next))
+    Ok(all)
 }
 
 // The number behind so many more.
@@ -126,11 +135,11 @@ fn numbers_of<'a>(
 ) -> Result<Numbers<'a>, NoMemory>
     ensures { (fs : List KnownTree) (m : NumbersTree) → AreKnown fs run.now → m.kept ≡ kept_places 0 fs → map (λ w. w.now) out.now.keys ≡ m.out → map (λ w. w.now) unknown.now.keys ≡ m.unknown → AreTypesNumbered m.types types → map (λ w. w.now) words.now.keys ≡ m.words → IfOk result (AreNumbers m) }
 {
-    let (kept, count) = kept_numbers(alloc, run)?;
+    let count = kept_count(run)?;
     let first_unknown = behind(count, out.len())?;
     behind(first_unknown, unknown.len())?;
     Ok(Numbers {
-        kept,
+        kept: kept_numbers(alloc, run)?,
         out: Ids::new(alloc, count, out)?,
         unknown: Ids::new(alloc, first_unknown, unknown)?,
         types,
@@ -371,7 +380,7 @@ fn named_by<'b>(
     let mut out = out_names(alloc, run, left)?;
     let own = out.len();
     let mut unknown = IndexSet::new(alloc);
-    let (_, kept) = kept_numbers(alloc, run)?;
+    let kept = kept_count(run)?;
     add_called(kept, texts, &sights.functions, &mut out, &mut unknown)?;
     Ok(Named {
         out,
