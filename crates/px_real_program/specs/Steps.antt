@@ -5,7 +5,6 @@ use Rattle.std.specs.Str.{bytes_eq}
 use Rattle.std.specs.Map.{lookup}
 use Rattle.std.specs.List.{list_any, position_or_len, AllByRecursion}
 use Rattle.indexmap.specs.IndexSet.{insert_all}
-use Rattle.indexmap.specs.declared.set.IndexSet.{IndexSet}
 use Rattle.px_base.specs.declared.trace.ProcId.{ProcId}
 use Rattle.px_syntax.specs.declared.typed_expression.ArithmeticLink.{ArithmeticLink}
 use Rattle.px_syntax.specs.declared.typed_expression.RelationLink.{RelationLink}
@@ -324,9 +323,9 @@ pub record AreKeptNumbers (places : List Place) (kept : List (Vec (Option ℕ) G
   pub all : (file n : ℕ) → is_some (or_else (slice_get kept file) (λ ns. or_else (slice_get ns.items n) (λ o. o) None) None) ≡ list_any (same_place (file, n)) places
 
 -- what is named, in numbers of the run
-pub record IsNamed (own : ℕ) (m : NumbersTree) (x : Named) : Type 0 where
+pub record IsNamed (count : ℕ) (m : NumbersTree) (x : Named) : Type 0 where
   pub out : map (λ w. w.now) x.out.keys ≡ m.out
-  pub own : x.own ≡ own
+  pub own : x.own ≡ count
   pub unknown : map (λ w. w.now) x.unknown.keys ≡ m.unknown
   pub words : map (λ w. w.now) x.words.keys ≡ m.words
   pub types : AreTypes m.types x.types
