@@ -249,7 +249,9 @@ pub fn define<R: Run>(
         &mut statements,
     )?;
     let Place {
-        mut scopes, locals, ..
+        mut scopes,
+        locals,
+        ..
     } = place;
     scopes.leave();
     let made = Made {

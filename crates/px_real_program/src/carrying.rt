@@ -202,10 +202,7 @@ pub struct External<'b> {
 }
 
 /// The external functions of the run, by name.
-pub fn externals<'b>(
-    alloc: Global,
-    run: &'b KnownRun<'_>,
-) -> Result<Vec<External<'b>>, NoMemory>
+pub fn externals<'b>(alloc: Global, run: &'b KnownRun<'_>) -> Result<Vec<External<'b>>, NoMemory>
     ensures { IfOk result (λ v. AreExternals (map file_tree run.entry.now.links.items) v.items) }
 {
     let mut seen = IndexMap::new(alloc);

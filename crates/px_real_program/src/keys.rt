@@ -35,10 +35,12 @@ pub fn record_in(known: Known) -> Option<u32>
 {
     match known {
         Known::Record(number) => Some(number),
-        Known::Seen(Shape::Value {
-            base: Base::Struct(number),
-            stars: 0,
-        }) => Some(number),
+        Known::Seen(
+            Shape::Value {
+                base: Base::Struct(number),
+                stars: 0,
+            },
+        ) => Some(number),
         _ => None,
     }
 }
@@ -91,11 +93,7 @@ fn take_words<'a>(scopes: &Scopes, own: Texts<'a>, keys: &mut [Key<'a>])
 }
 
 // The keys of all structs and unions of a file, by their numbers there.
-fn keys_in<'a>(
-    alloc: Global,
-    file: &'a RealFile,
-    look: &Look<'a>,
-) -> Result<Vec<Key<'a>>, NoMemory>
+fn keys_in<'a>(alloc: Global, file: &'a RealFile, look: &Look<'a>) -> Result<Vec<Key<'a>>, NoMemory>
     ensures { (n : ℕ) → IfOk result (λ ks. keys_at n 0 (map key_view ks.items) ≡ Rules.keys_in n (file_view file.entry.now) (look_view look.now)) }
 {
     let mut keys = Vec::new(alloc);

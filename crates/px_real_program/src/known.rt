@@ -101,11 +101,7 @@ fn hidden_of(alloc: Global, files: &[RealFile]) -> Result<Vec<Vec<bool>>, NoMemo
 }
 
 // By their numbers in the run, the first struct of a file of each.
-fn places_of(
-    alloc: Global,
-    structs: &[u32],
-    count: usize,
-) -> Result<Vec<Option<u32>>, NoMemory>
+fn places_of(alloc: Global, structs: &[u32], count: usize) -> Result<Vec<Option<u32>>, NoMemory>
     requires { AllByRecursion (λ n. n < count) structs.now }
     ensures { IfOk result (λ v. IsPlaces structs.now v.items) }
 {

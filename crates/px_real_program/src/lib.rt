@@ -4,8 +4,8 @@
 
 mod asked;
 mod carrying;
-mod file;
 mod fields;
+mod file;
 mod hidden;
 mod keys;
 mod known;

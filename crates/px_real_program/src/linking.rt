@@ -47,10 +47,14 @@ fn add_static<'a>(names: &mut IndexSet<&'a [u8]>, item: &'a FileItem) -> Result<
     ensures { (name : List ℕ) (all : List Lexeme) → OnOk result (are_among (map (λ n. n.now) names.new.keys) name ≡ (are_among (map (λ n. n.now) names.old.keys) name || is_in (Rules.said_by Rules.static_names (piece_of all (item_tree all item.entry.now))) name)) }
 {
     match &item.read {
-        Ok(External::Declaration(Declaration::Declaration {
-            specifiers,
-            declared,
-        })) => {
+        Ok(
+            External::Declaration(
+                Declaration::Declaration {
+                    specifiers,
+                    declared,
+                },
+            ),
+        ) => {
             if says_static(specifiers) {
                 add_declared(names, declared)?;
             }
@@ -68,7 +72,12 @@ fn add_static<'a>(names: &mut IndexSet<&'a [u8]>, item: &'a FileItem) -> Result<
 }
 
 // The names that an item makes weak.
-fn add_weak(alloc: Global, names: &mut Vec<Name>, on: Texts, item: &FileItem) -> Result<(), NoMemory>
+fn add_weak(
+    alloc: Global,
+    names: &mut Vec<Name>,
+    on: Texts,
+    item: &FileItem,
+) -> Result<(), NoMemory>
     ensures { OnOk result (names.new.items ≡ names.old.items ++ Rules.said_by Rules.weakened (piece_of (texts on.entry) (item_tree (texts on.entry) item.now))) }
 {
     let own = tokens_of(on, item);

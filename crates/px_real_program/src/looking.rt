@@ -15,6 +15,7 @@ ghost use Rattle.px_real_program.specs.Views.{file_view, listed, stepped_view, b
 
 use crate::file::RealFile;
 use px_base::{ProcId, Site};
+use px_real_blocks::Statement;
 use px_real_declaring::{Declaration, DeclarationFault, Declarator, Specifier};
 use px_real_functions::{Made, Run, define, heading_of, shaped_name};
 use px_real_items::{External, FileItem};
@@ -22,7 +23,6 @@ use px_real_locals::addressed_names;
 use px_real_members::Head;
 use px_real_names::enumerated::within;
 use px_real_names::slices::{skip, some_first};
-use px_real_blocks::Statement;
 use px_real_scopes::{Function, Scopes, Tag};
 use px_real_symbols::Span;
 use px_real_types::{Base, ProfileType, Scope, Shape, Texts, declared_name};

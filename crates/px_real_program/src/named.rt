@@ -52,7 +52,8 @@ impl<'a> NamedWords<'a> {
         let mut selected = false;
         for symbol in &symbols {
             if symbol.terminal == Terminal::Name && !selected {
-                self.words.insert(text(on.source, symbol.start, symbol.end))?;
+                self.words
+                    .insert(text(on.source, symbol.start, symbol.end))?;
                 selected = false;
             } else {
                 selected = is_selector(symbol.terminal);
@@ -91,8 +92,8 @@ impl<'a> NamedWords<'a> {
                 };
                 self.add_initialisers(alloc, before, declared)
             }
-            Ok(External::Declaration(Declaration::Assertion(_)))
-            | Ok(External::Function { .. }) => Ok(()),
+            Ok(External::Declaration(Declaration::Assertion(_))) | Ok(External::Function { .. }) =>
+                Ok(()),
             Err(_) => self.add(alloc, own),
         }
     }

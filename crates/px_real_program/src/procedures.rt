@@ -72,14 +72,7 @@ pub fn procedures(
     let mut procedures = Vec::new(alloc);
     for file in 0..run.files.len() {
         let own = file_run(alloc, run, &external, numbers, file)?;
-        add_procedures(
-            alloc,
-            run.file(file),
-            &own,
-            numbers,
-            file,
-            &mut procedures,
-        )?;
+        add_procedures(alloc, run.file(file), &own, numbers, file, &mut procedures)?;
     }
     Ok(procedures)
 }

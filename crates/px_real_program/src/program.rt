@@ -41,7 +41,8 @@ pub struct RealProgram {
 }
 
 // The words that stand for what isn't written as they are, with blanks between them.
-const OWN_WORDS: &[u8] = b"form type call cast constant string enum int malloc return NULL cleanup switch do goto case default break continue sizeof _Alignof __real__ __imag__ ( [ . -> ? , = * / % + - << >> < > <= >= == != & ^ | && || ~ ! ++ -- *= /= %= += -= <<= >>= &= ^= |=";
+const OWN_WORDS: &[u8] =
+    b"form type call cast constant string enum int malloc return NULL cleanup switch do goto case default break continue sizeof _Alignof __real__ __imag__ ( [ . -> ? , = * / % + - << >> < > <= >= == != & ^ | && || ~ ! ++ -- *= /= %= += -= <<= >>= &= ^= |=";
 
 // These words.
 fn own_texts<'a>(alloc: Global) -> Result<IndexSet<&'a [u8]>, NoMemory>
@@ -148,11 +149,7 @@ fn numbers_of<'a>(
 }
 
 // What stands in the procedures of a run, in the numbers of all that there may be.
-fn sights_of(
-    alloc: Global,
-    run: &KnownRun,
-    texts: &IndexSet<&[u8]>,
-) -> Result<Sights, NoMemory>
+fn sights_of(alloc: Global, run: &KnownRun, texts: &IndexSet<&[u8]>) -> Result<Sights, NoMemory>
     requires { IsWhole run.now }
     ensures { (files : List FileTree) → AreKnown (known_files files) run.now → map (λ w. w.now) texts.now.keys ≡ Rules.all_texts files → IfOk result (λ s. AreSeen (let m = Rules.all_numbers files (known_files files) in flat_map in_procedure (Rules.procedures (known_files files) m)) s) }
 {
@@ -178,10 +175,7 @@ struct LeftItem<'b> {
 }
 
 // The items that are left out, in order.
-fn left_items<'b>(
-    alloc: Global,
-    run: &'b KnownRun<'b>,
-) -> Result<Vec<LeftItem<'b>>, NoMemory>
+fn left_items<'b>(alloc: Global, run: &'b KnownRun<'b>) -> Result<Vec<LeftItem<'b>>, NoMemory>
     requires { IsWhole run.entry.now }
     ensures { (fs : List KnownTree) → AreKnown fs run.entry.now → IfOk result (λ v. map left_view v.items ≡ Rules.left_in 0 fs) }
 {
@@ -453,16 +447,7 @@ pub fn program(alloc: Global, files: &[RealFile]) -> Result<RealProgram, Program
     let left = left_items(alloc, &run)?;
     let named = named_by(alloc, &run, &seen, &left, &texts, &sights)?;
     let types = named.types.ids(alloc)?;
-    let numbers = numbers_of(
-        alloc,
-        &run,
-        &named.out,
-        &named.unknown,
-        types,
-        &named.words,
-    )?;
+    let numbers = numbers_of(alloc, &run, &named.out, &named.unknown, types, &named.words)?;
     let made = procedures(alloc, &run, &numbers)?;
-    assembled(
-        alloc, files, &run, &seen, &left, &named, &numbers, made,
-    )
+    assembled(alloc, files, &run, &seen, &left, &named, &numbers, made)
 }

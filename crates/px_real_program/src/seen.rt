@@ -28,8 +28,7 @@ impl SeenStructs {
             let known = run.file(file);
             for at in 0..known.structs.len() {
                 let number = at as u32;
-                let is_seen =
-                    !flag_at(known.hidden, number) && known.look.after.is_defined(number);
+                let is_seen = !flag_at(known.hidden, number) && known.look.after.is_defined(number);
                 let place = known.structs[at] as usize;
                 if is_seen && place < first.len() && first[place].is_none() {
                     first[place] = Some(At { file, number });

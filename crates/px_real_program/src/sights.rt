@@ -248,13 +248,15 @@ impl Sights {
             TypedStatement::Declare { value, .. } | TypedStatement::Return { value } => {
                 self.see_value_of(value)
             }
-            TypedStatement::Assign { place, value }
-            | TypedStatement::Update { place, value, .. } => {
-                self.see_place(place)?;
-                self.see_expression(value)
-            }
+            TypedStatement::Assign { place, value } | TypedStatement::Update { place, value, .. } =>
+                {
+                    self.see_place(place)?;
+                    self.see_expression(value)
+                }
             TypedStatement::Call {
-                proc, arguments, ..
+                proc,
+                arguments,
+                ..
             } => {
                 self.see_arguments(arguments)?;
                 self.functions.insert(proc.0)?;
