@@ -1,11 +1,15 @@
-ghost use Rattle.std.specs.Prelude.{◌≡◌, ◌<◌, ◌^◌, map, option_map, length, IfOk, OnOk};
+ghost use Rattle.std.specs.Prelude.{◌≡◌, ◌<◌, ◌^◌, map, option_map, length, false, IfOk, OnOk};
+ghost use Rattle.px_syntax.specs.TypedTree as T;
+ghost use Rattle.px_syntax.specs.TypedViews.{typed_statement};
 ghost use Rattle.px_real_symbols.specs.Symbols.{held_in};
+ghost use Rattle.px_real_statements.specs.StatementTree.{statements_of};
 ghost use Rattle.px_real_blocks.specs.Trees.{statement_tree};
 ghost use Rattle.px_real_declaring.specs.Trees.{declaration_tree};
 ghost use Rattle.px_real_members.specs.Trees.{parameters_tree, head_tree};
 ghost use Rattle.px_real_types.specs.Scopes.{texts};
 ghost use Rattle.px_real_types.specs.Types.{pointee};
 ghost use Rattle.px_real_locals.specs.Views.{holds};
+ghost use Rattle.px_real_bodies.specs.Statements.{all_done};
 ghost use Rattle.px_real_bodies.specs.Views.{place_seen};
 ghost use Rattle.px_real_functions.specs.Definitions as Rules;
 ghost use Rattle.px_real_functions.specs.Parameters.{declared_in};
@@ -17,7 +21,7 @@ use crate::made::Made;
 use crate::parameters::{old_names, parameter_names};
 use crate::run::Run;
 use px_real_blocks::Statement;
-use px_real_bodies::{Place, put_all_statements};
+use px_real_bodies::{Function, Place, put_all_statements};
 use px_real_declaring::{Declaration, DeclarationFault};
 use px_real_locals::AddressedNames;
 use px_real_members::{Head, Parameters};
@@ -207,6 +211,23 @@ fn start(
     })
 }
 
+// The statements of a body, which begins at this place.
+#[tactic(auto, using(px_syntax::proofs::TypedEquations::typed_trees))]
+fn walk<F: Function>(
+    alloc: Global,
+    function: &F,
+    inside: Texts,
+    body: &[Statement],
+    place: &mut Place,
+) -> Result<TypedStatement, NoMemory>
+    ensures statement { IfOk result (λ s. typed_statement s ≡ T.block (T.statements_of (all_done (F.sees function.now) false (statements_of (map (statement_tree (texts inside.entry)) body.now)) (place_seen place.old)).trees)) }
+    ensures place { OnOk result (place_seen place.new ≡ (all_done (F.sees function.now) false (statements_of (map (statement_tree (texts inside.entry)) body.now)) (place_seen place.old)).after) }
+{
+    let mut statements = Vec::new(alloc);
+    put_all_statements(alloc, function, inside, false, body, place, &mut statements)?;
+    Ok(TypedStatement::Block { statements })
+}
+
 /// What a function does that is defined behind this head, and what is in scope behind its body. What was in scope is what its head has declared,
 /// and these names are those of which its body takes an address. What head and body hold is numbered as the tokens of each are.
 pub fn define<R: Run>(
@@ -238,29 +259,18 @@ pub fn define<R: Run>(
         returns,
     };
     let mut place = start(alloc, scopes, addressed, on, head, heading, kept)?;
-    let mut statements = Vec::new(alloc);
-    put_all_statements(
-        alloc,
-        &function,
-        inside,
-        false,
-        body,
-        &mut place,
-        &mut statements,
-    )?;
+    let statement = walk(alloc, &function, inside, body, &mut place)?;
     let Place {
         mut scopes,
         locals,
         ..
     } = place;
     scopes.leave();
+    let locals = Items::from_vec(locals);
     let made = Made {
         parameters,
         result: result_value(run, returns),
-        body: TypedBody {
-            locals: Items::from_vec(locals),
-            statement: TypedStatement::Block { statements },
-        },
+        body: TypedBody { locals, statement },
     };
     Ok((made, scopes))
 }

@@ -38,14 +38,14 @@ fn is_own_word(word: &[u8]) -> bool
 }
 
 // How many parentheses of an attribute are open behind a token.
-fn open_behind(terminal: Terminal, open: usize) -> usize
-    requires { open < usize.MAX }
-    ensures { result ≡ Rules.open_behind terminal open }
+fn open_behind(terminal: Terminal, before: usize) -> usize
+    requires { before < usize.MAX }
+    ensures { result ≡ Rules.open_behind terminal before }
 {
     match terminal {
-        Terminal::OpenParenthesis => open + 1,
-        Terminal::CloseParenthesis => open.saturating_sub(1),
-        _ => open,
+        Terminal::OpenParenthesis => before + 1,
+        Terminal::CloseParenthesis => before.saturating_sub(1),
+        _ => before,
     }
 }
 

@@ -1,4 +1,4 @@
-ghost use Rattle.std.specs.Prelude.{◌≡◌, ◌++◌, map, option_map, OnOk};
+ghost use Rattle.std.specs.Prelude.{◌∷◌, [], map, flat_map, option_map, OnOk};
 ghost use Rattle.px_syntax.specs.TypedTree.{expressions_of, arguments_of, statements_of};
 ghost use Rattle.px_syntax.specs.ProgramTree.{procedure_tree};
 ghost use Rattle.px_syntax.specs.TypedViews.{typed_expression, typed_argument, typed_condition, typed_place, typed_statement};
@@ -22,7 +22,9 @@ pub struct Sights {
 
 impl Sights {
     // A block type.
-    fn see_block(&mut self, block: TypeId) -> Result<(), NoMemory> {
+    fn see_block(&mut self, block: TypeId) -> Result<(), NoMemory>
+        ensures { OnOk result (Sees self.old self.new (Rules.a_block block.0 ∷ [])) }
+    {
         self.blocks.insert(block.0)?;
         Ok(())
     }
@@ -38,7 +40,9 @@ impl Sights {
     }
 
     // The types of values.
-    fn see_values(&mut self, kinds: &[ValueType]) -> Result<(), NoMemory> {
+    fn see_values(&mut self, kinds: &[ValueType]) -> Result<(), NoMemory>
+        ensures { OnOk result (Sees self.old self.new (flat_map Rules.in_value kinds.now)) }
+    {
         for kind in kinds {
             self.see_value(*kind)?;
         }

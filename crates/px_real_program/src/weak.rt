@@ -4,6 +4,8 @@ ghost use Rattle.px_real_declaring.specs.Trees.{group_tree, specifier_tree, decl
 ghost use Rattle.px_real_types.specs.declared.words.Mark.TheVariants.{Weakens};
 ghost use Rattle.px_real_types.specs.Scopes.{texts, any_marks};
 ghost use Rattle.px_real_types.specs.Specifiers.{groups_mark};
+ghost use Rattle.px_real_types.specs.Words.{weak_words};
+ghost use Rattle.px_expressions.specs.Terminals.{is_in};
 ghost use Rattle.px_real_types.specs.Linkage as Rules;
 
 use px_expressions::text;
@@ -13,7 +15,9 @@ use px_real_symbols::Span;
 use px_real_types::Texts;
 
 // Whether a word makes a function weak, or another's.
-fn is_weak_word(word: &[u8]) -> bool {
+fn is_weak_word(word: &[u8]) -> bool
+    ensures { result ≡ is_in weak_words word.now }
+{
     word == b"weak".as_slice()
         || word == b"__weak__".as_slice()
         || word == b"alias".as_slice()
