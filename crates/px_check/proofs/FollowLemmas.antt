@@ -13,11 +13,11 @@ use Rattle.px_callgraph.specs.Alternatives.{Walk, Leads, at, start}
 use Rattle.px_callgraph.specs.ActsLeft.{acts_left}
 use Rattle.px_callgraph.specs.Laws.{at_start}
 use Rattle.px_callgraph.specs.Derivations.{Course, fails_at, at_end, fails_next, onward, by_use, by_item, use_rule, course, RunsTo}
-use Rattle.px_walks.specs.Walks.{walk_of, leads_of}
-use Rattle.px_callgraph.specs.declared.outcomes.StepOutcome.{StepOutcome}
-use Rattle.px_walks.specs.declared.walk.Walk.{Walk as WalkOf}
+use Rattle.px_steps.specs.declared.led.Led.{Led}
+use Rattle.px_steps.specs.declared.led.Led.TheVariants as act
+use Rattle.px_check.specs.Leading.{lead_at}
 use Rattle.px_check.specs.declared.turns.Turn.{Turn}
-use Rattle.px_check.specs.declared.turns.Turn.TheVariants.{Goes, Fails}
+use Rattle.px_check.specs.declared.turns.Turn.TheVariants.{Taken, Fails}
 use Rattle.px_check.specs.Follows.{alone, turns_left_of, Follows}
 use Rattle.px_check.specs.Courses.{AreBetween, IsUse, IsTurn, TakesTurn}
 use Rattle.px_check.proofs.FewActs.{start_acts, still_few}
@@ -133,17 +133,17 @@ is_cut j steps i a h e = let r = rest_is j steps i a h 1 in (r.0, r.1 ∙ e)
 
 -- ---- by what the code keeps
 
-module _ (j : JobTree) (steps : List Step) (i : ℕ) (leads : StepOutcome WalkOf) (w : WalkOf) (h : Follows j (take i steps) i (leads_of leads)) (is : leads ≡ Next w) where
-  pub here : Follows j (take i steps) i (Next (walk_of w))
-  here = subst (λ z. Follows j (take i steps) i (leads_of z)) is h
+module _ (j : JobTree) (steps : List Step) (i : ℕ) (w : Walk) (led : Led) (h : Follows j (take i steps) i (lead_at w led)) (is : led ≡ act.Goes) where
+  pub here : Follows j (take i steps) i (Next w)
+  here = subst (λ z. Follows j (take i steps) i (lead_at w z)) is h
 
-  pub goes_by : (t : Turn) (k : ℕ) (to : StepOutcome WalkOf) → TakesTurn j steps (walk_of w) i t → t ≡ Goes k to → Follows j (take k steps) k (leads_of to)
-  goes_by t k to l e = let r = subst (TakesTurn j steps (walk_of w) i) e l in goes j steps i (walk_of w) here k r.0 (leads_of to) r.1 r.2
+  pub goes_by : (v : Walk) (t : Turn) (k : ℕ) (to : Led) → TakesTurn j steps w i v t → t ≡ Taken k to → Follows j (take k steps) k (lead_at v to)
+  goes_by v t k to l e = let r = subst (TakesTurn j steps w i v) e l in goes j steps i w here k r.0 (lead_at v to) r.1 r.2
 
-  pub falls_by : (t : Turn) (k : ℕ) (to : StepOutcome WalkOf) → TakesTurn j steps (walk_of w) i t → t ≡ Goes k to → turns_left_of j (leads_of to) < turns_left_of j (leads_of leads)
-  falls_by t k to l e =
-      let r = subst (TakesTurn j steps (walk_of w) i) e l in
-      subst (λ z. turns_left_of j (leads_of to) < turns_left_of j (leads_of z)) (sym is) (falls j steps i (walk_of w) here r.0 (leads_of to) r.2)
+  pub falls_by : (v : Walk) (t : Turn) (k : ℕ) (to : Led) → TakesTurn j steps w i v t → t ≡ Taken k to → turns_left_of j (lead_at v to) < turns_left_of j (lead_at w led)
+  falls_by v t k to l e =
+      let r = subst (TakesTurn j steps w i v) e l in
+      subst (λ z. turns_left_of j (lead_at v to) < turns_left_of j (lead_at w z)) (sym is) (falls j steps i w here r.0 (lead_at v to) r.2)
 
-  pub fails_by : (t : Turn) (k : ℕ) → TakesTurn j steps (walk_of w) i t → t ≡ Fails k → RunsTo j steps (fails_next k (drop k steps))
-  fails_by t k l e = let r = subst (TakesTurn j steps (walk_of w) i) e l in fails j steps i (walk_of w) here k r.1
+  pub fails_by : (v : Walk) (t : Turn) (k : ℕ) → TakesTurn j steps w i v t → t ≡ Fails k → RunsTo j steps (fails_next k (drop k steps))
+  fails_by v t k l e = let r = subst (TakesTurn j steps w i v) e l in fails j steps i w here k r.1

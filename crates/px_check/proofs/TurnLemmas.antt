@@ -1,6 +1,5 @@
 -- What the course of steps is at the next item of a path.
 use Rattle.std.proofs.Common.{◌≡◌, ℕ, zero, suc, ◌+◌, Result, Ok, Err, IfOk, List, [], ◌∷◌, length, drop, true, Option, Some, None, slice_get, Bool, false, refl, sym, ◌∙◌, ap, subst, arith}
-use Rattle.std.specs.Prelude.{option_map}
 use Rattle.std.proofs.lemmas.Bool.{and_parts}
 use Rattle.px_terms.specs.declared.conjuncts.Content.{Content}
 use Rattle.px_core.specs.Control.{Item}
@@ -19,13 +18,12 @@ use Rattle.px_callgraph.specs.Alternatives.{Walk, Leads}
 use Rattle.px_callgraph.specs.Derivations.{Course, fails_at, comes_to, at_end, uses_atom, onward, fails_next, by_use, by_step, by_item, use_rule, item_step, take_listed, is_silent, course}
 use Rattle.px_walks.specs.declared.control.Upcoming.{Upcoming}
 use Rattle.px_walks.specs.Nexts.{items_from, IsNext}
-use Rattle.px_walks.specs.Walks.{leads_of}
-use Rattle.px_callgraph.specs.declared.outcomes.StepOutcome.{StepOutcome}
-use Rattle.px_walks.specs.declared.walk.Walk.{Walk as WalkOf}
 use Rattle.px_match.proofs.PathLimitLemmas as limits
+use Rattle.px_steps.specs.declared.led.Led.{Led}
+use Rattle.px_check.specs.Leading.{lead_at, leads_at}
 use Rattle.px_check.specs.Steps.{is_call, named_way, take_named, is_call_rule, is_step_that, is_end}
 use Rattle.px_check.specs.declared.turns.Turn.{Turn}
-use Rattle.px_check.specs.declared.turns.Turn.TheVariants.{Goes, Fails}
+use Rattle.px_check.specs.declared.turns.Turn.TheVariants.{Taken, Fails}
 use Rattle.px_check.specs.Courses.{IsUse, IsBehindUse, TakesTurn}
 use Rattle.px_walks.proofs.NextLemmas.{is_items}
 use Rattle.px_check.proofs.StepLemmas.{named_step, whole_call, by_rule, call_step}
@@ -45,24 +43,24 @@ gone (y ∷ ys) (suc i) e = gone ys i e
 
 -- ---- what takes no step
 
-module _ (j : JobTree) (i : ℕ) (steps : List Step) (w : Walk) (silent : is_silent w.control ≡ true) where
-  pub silent_goes : (a : StepOutcome WalkOf) → Some (leads_of a) ≡ take_listed j w way.On → TakesTurn j steps w i (Goes i a)
-  silent_goes a e = ([], (refl, limits.none i), (silent, sym e))
+module _ (j : JobTree) (i : ℕ) (steps : List Step) (w v : Walk) (silent : is_silent w.control ≡ true) where
+  pub silent_goes : (led : Led) → Some (lead_at v led) ≡ take_listed j w way.On → TakesTurn j steps w i v (Taken i led)
+  silent_goes led e = ([], (refl, limits.none i), (silent, sym e))
 
-  pub silent_fails : None ≡ take_listed j w way.On → TakesTurn j steps w i (Fails i)
+  pub silent_fails : None ≡ take_listed j w way.On → TakesTurn j steps w i v (Fails i)
   silent_fails e = (
     omega arith,
     λ n. ap (by_item j (course n j) i (drop i steps) w) silent ∙ ap (onward (fails_next i (drop i steps)) (course n j i (drop i steps))) (sym e),
   )
 
-pub for_steps : {E : Type 0} (j : JobTree) (steps : List Step) (w : Walk) (i : ℕ) (r : Result Turn E) → IfOk r (λ t. (ss : List Step) → TakesTurn j ss w i t) → IfOk r (TakesTurn j steps w i)
-for_steps j steps w i (Ok t) h = h steps
-for_steps j steps w i (Err x) h = tt
+pub for_steps : {E : Type 0} (j : JobTree) (steps : List Step) (w v : Walk) (i : ℕ) (r : Result Turn E) → IfOk r (λ t. (ss : List Step) → TakesTurn j ss w i v t) → IfOk r (TakesTurn j steps w i v)
+for_steps j steps w v i (Ok t) h = h steps
+for_steps j steps w v i (Err x) h = tt
 
 -- ---- what takes a step
 
-pub no_step : (j : JobTree) (i : ℕ) (steps : List Step) (w : Walk) → is_silent w.control ≡ false → slice_get steps i ≡ None → TakesTurn j steps w i (Fails i)
-no_step j i steps w own e = (
+pub no_step : (j : JobTree) (i : ℕ) (steps : List Step) (w v : Walk) → is_silent w.control ≡ false → slice_get steps i ≡ None → TakesTurn j steps w i v (Fails i)
+no_step j i steps w v own e = (
   omega arith,
   λ n. ap (by_item j (course n j) i (drop i steps) w) own ∙ subst (λ z. by_step j (course n j) i z w ≡ fails_next i z) (sym (gone steps i e)) refl,
 )
@@ -86,67 +84,67 @@ module _ (j : JobTree) (w : Walk) (next : Upcoming) (rest : List Item) (is : IsN
       ∙ sym (ap (λ k. take_named j w (named_way w.state.atoms k r cs)) (is_items next w.control rest is))
       ∙ sym (named_step j w w.control r cs plain)
 
-  pub named_takes : {E : Type 0} (result : Result (Option (StepOutcome WalkOf)) E) (r : Rule) (cs : List ℕ) (atoms : List Atom) (choices : List ℕ) (o : Option Way) → is_call w.control ≡ false →
+  pub named_takes : {A E : Type 0} (f : A → Option Leads) (result : Result A E) (r : Rule) (cs : List ℕ) (atoms : List Atom) (choices : List ℕ) (o : Option Way) → is_call w.control ≡ false →
       atoms ≡ w.state.atoms → choices ≡ cs → o ≡ named_way atoms (items_from next rest) r choices →
-      IfOk result (λ t. option_map leads_of t ≡ take_named j w o) → IfOk result (λ t. option_map leads_of t ≡ item_step j w w.control r cs)
-  named_takes (Ok t) r cs atoms choices o plain same e f h = h ∙ names r cs atoms choices o plain same e f
-  named_takes (Err x) r cs atoms choices o plain same e f h = tt
+      IfOk result (λ t. f t ≡ take_named j w o) → IfOk result (λ t. f t ≡ item_step j w w.control r cs)
+  named_takes f (Ok t) r cs atoms choices o plain same e g h = h ∙ names r cs atoms choices o plain same e g
+  named_takes f (Err x) r cs atoms choices o plain same e g h = tt
 
 -- ---- calls
 
 module _ (j : JobTree) (w : Walk) (calls : is_call w.control ≡ true) (r : Rule) (cs : List ℕ) where
-  pub call_takes : {E : Type 0} (result : Result (Option (StepOutcome WalkOf)) E) (choices : List ℕ) → choices ≡ cs → is_call_rule r ≡ true → IfOk result (λ t. option_map leads_of t ≡ whole_call j w choices) →
-      IfOk result (λ t. option_map leads_of t ≡ item_step j w w.control r cs)
-  call_takes (Ok t) choices e f h = h ∙ ap (whole_call j w) e ∙ sym (call_step j w w.control r cs calls ∙ ap (by_rule (whole_call j w cs)) f)
-  call_takes (Err x) choices e f h = tt
+  pub call_takes : {A E : Type 0} (f : A → Option Leads) (result : Result A E) (choices : List ℕ) → choices ≡ cs → is_call_rule r ≡ true → IfOk result (λ t. f t ≡ whole_call j w choices) →
+      IfOk result (λ t. f t ≡ item_step j w w.control r cs)
+  call_takes f (Ok t) choices e g h = h ∙ ap (whole_call j w) e ∙ sym (call_step j w w.control r cs calls ∙ ap (by_rule (whole_call j w cs)) g)
+  call_takes f (Err x) choices e g h = tt
 
   pub other_rule : is_call_rule r ≡ false → None ≡ item_step j w w.control r cs
   other_rule f = sym (call_step j w w.control r cs calls ∙ ap (by_rule (whole_call j w cs)) f)
 
-module _ (j : JobTree) (w : Walk) (next : Upcoming) (rest : List Item) (is : IsNext next w.control rest) (own : is_silent w.control ≡ false)
+module _ (j : JobTree) (w v : Walk) (next : Upcoming) (rest : List Item) (is : IsNext next w.control rest) (own : is_silent w.control ≡ false)
     (steps : List Step) (i : ℕ) (st : Step) (here : slice_get steps i ≡ Some st)
-    (o : Option (StepOutcome WalkOf)) (taken : option_map leads_of o ≡ item_step j w w.control st.rule st.choices) where
+    (o : Option Led) (taken : leads_at v o ≡ item_step j w w.control st.rule st.choices) where
   -- the use of a block, behind this step
   abbrev use_at : (n k : ℕ) → Leads → Course
   use_at n k = by_use (course n j) k (drop k steps) (length w.state.atoms) (use_rule w.control st.rule)
 
-  step_is : (n : ℕ) → course (suc n) j i (drop i steps) (Next w) ≡ onward (fails_next i (drop i steps)) (use_at n (suc i)) (option_map leads_of o)
+  step_is : (n : ℕ) → course (suc n) j i (drop i steps) (Next w) ≡ onward (fails_next i (drop i steps)) (use_at n (suc i)) (leads_at v o)
   step_is n =
       ap (by_item j (course n j) i (drop i steps) w) own
-      ∙ subst (λ z. by_step j (course n j) i z w ≡ onward (fails_next i z) (use_at n (suc i)) (option_map leads_of o))
+      ∙ subst (λ z. by_step j (course n j) i z w ≡ onward (fails_next i z) (use_at n (suc i)) (leads_at v o))
       (sym (got steps i st here))
       (ap (onward (fails_at i st.rule) (use_at n (suc i))) (sym taken))
 
   -- the step takes nothing
-  pub not_taken : o ≡ None → TakesTurn j steps w i (Fails i)
-  not_taken e = (omega arith, λ n. step_is n ∙ ap (λ z. onward (fails_next i (drop i steps)) (use_at n (suc i)) (option_map leads_of z)) e)
+  pub not_taken : o ≡ None → TakesTurn j steps w i v (Fails i)
+  not_taken e = (omega arith, λ n. step_is n ∙ ap (λ z. onward (fails_next i (drop i steps)) (use_at n (suc i)) (leads_at v z)) e)
 
   -- the step leads there, and the use of a block is looked at
-  module _ (a : StepOutcome WalkOf) (r : Option Rule) (m : ℕ) (leads : o ≡ Some a) (owed : r ≡ use_rule (items_from next rest) st.rule) (count : m ≡ length w.state.atoms) where
+  module _ (led : Led) (r : Option Rule) (m : ℕ) (leads : o ≡ Some led) (owed : r ≡ use_rule (items_from next rest) st.rule) (count : m ≡ length w.state.atoms) where
     owed_is : r ≡ use_rule w.control st.rule
     owed_is = owed ∙ sym (ap (λ k. use_rule k st.rule) (is_items next w.control rest is))
 
-    pub not_used : IsBehindUse steps (i + 1) m r None → TakesTurn j steps w i (Fails (i + 1))
+    pub not_used : IsBehindUse steps (i + 1) m r None → TakesTurn j steps w i v (Fails (i + 1))
     not_used h = (
       omega arith,
       λ n.
           let z : suc i ≡ i + 1 = omega arith in
           step_is n
-          ∙ ap (λ z. onward (fails_next i (drop i steps)) (use_at n (suc i)) (option_map leads_of z)) leads
-          ∙ ap (λ k. use_at n k (leads_of a)) z
-          ∙ ap (λ q. by_use (course n j) (i + 1) (drop (i + 1) steps) (length w.state.atoms) q (leads_of a)) (sym owed_is)
-          ∙ ap (λ q. by_use (course n j) (i + 1) (drop (i + 1) steps) q r (leads_of a)) (sym count)
-          ∙ h (course n j) (leads_of a),
+          ∙ ap (λ z. onward (fails_next i (drop i steps)) (use_at n (suc i)) (leads_at v z)) leads
+          ∙ ap (λ k. use_at n k (lead_at v led)) z
+          ∙ ap (λ q. by_use (course n j) (i + 1) (drop (i + 1) steps) (length w.state.atoms) q (lead_at v led)) (sym owed_is)
+          ∙ ap (λ q. by_use (course n j) (i + 1) (drop (i + 1) steps) q r (lead_at v led)) (sym count)
+          ∙ h (course n j) (lead_at v led),
     )
 
-    pub step_goes : (k : ℕ) → IsBehindUse steps (i + 1) m r (Some k) → TakesTurn j steps w i (Goes k a)
+    pub step_goes : (k : ℕ) → IsBehindUse steps (i + 1) m r (Some k) → TakesTurn j steps w i v (Taken k led)
     step_goes k (used, (e, f), u) =
         let g : k ≡ i + suc (length used) = omega (arith, f) in (
           st ∷ used,
           (got steps i st here ∙ ap (λ n. st ∷ drop n steps) (suc_is i) ∙ ap (λ zs. st ∷ zs) e, g),
           (
             own,
-            sym taken ∙ ap (option_map leads_of) leads,
+            sym taken ∙ ap (leads_at v) leads,
             subst (λ q. IsUse q (use_rule w.control st.rule) used) count (subst (λ q. IsUse m q used) owed_is u),
           ),
         )

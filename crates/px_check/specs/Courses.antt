@@ -8,9 +8,9 @@ use Rattle.px_callgraph.specs.declared.outcomes.StepOutcome.TheVariants.{Next}
 use Rattle.px_callgraph.specs.Alternatives as W
 use Rattle.px_callgraph.specs.Laws.{IsSorted}
 use Rattle.px_callgraph.specs.Derivations as D
-use Rattle.px_walks.specs.Walks.{leads_of}
+use Rattle.px_check.specs.Leading.{lead_at}
 use Rattle.px_check.specs.declared.turns.Turn.{Turn}
-use Rattle.px_check.specs.declared.turns.Turn.TheVariants.{Goes, Fails}
+use Rattle.px_check.specs.declared.turns.Turn.TheVariants.{Taken, Fails}
 use Rattle.px_check.specs.declared.steps.Course.{Course}
 use Rattle.px_check.specs.declared.steps.Course.TheVariants.{FailsAt, ComesTo}
 
@@ -35,10 +35,10 @@ IsTurn j w [] a = (D.is_silent w.control ≡ true) × (D.take_listed j w way.On 
 IsTurn j w (st ∷ used) a =
     (D.is_silent w.control ≡ false) × (D.item_step j w w.control st.rule st.choices ≡ Some a) × IsUse (length w.state.atoms) (D.use_rule w.control st.rule) used
 
--- A turn was taken, by the steps from one place to another; or a step fails, the next or the one behind it.
-abbrev pub TakesTurn : JobTree → List Step → W.Walk → ℕ → Turn → Type 0
-TakesTurn j steps w i (Goes k a) = (taken : List Step) × AreBetween steps i k taken × IsTurn j w taken (leads_of a)
-TakesTurn j steps w i (Fails k) = (k ≤ i + 2) × ((n : ℕ) → D.course (suc n) j i (drop i steps) (Next w) ≡ D.fails_next k (drop k steps))
+-- A turn was taken that left a walk so, by the steps from one place to another; or a step fails, the next or the one behind it.
+abbrev pub TakesTurn : JobTree → List Step → W.Walk → ℕ → W.Walk → Turn → Type 0
+TakesTurn j steps w i v (Taken k led) = (taken : List Step) × AreBetween steps i k taken × IsTurn j w taken (lead_at v led)
+TakesTurn j steps w i v (Fails k) = (k ≤ i + 2) × ((n : ℕ) → D.course (suc n) j i (drop i steps) (Next w) ≡ D.fails_next k (drop k steps))
 
 -- the steps after an `End` are those from the next place on
 abbrev pub course_of : List Step → Course → D.Course

@@ -1,4 +1,5 @@
 pub mod Steps
+pub mod Leading
 pub mod Follows
 pub mod Courses
 pub mod Values

@@ -1,34 +1,39 @@
-ghost use Rattle.std.specs.Prelude.{◌≡◌, IfOk, option_map};
+ghost use Rattle.std.specs.Prelude.{◌≡◌, IfOk};
 ghost use Rattle.px_callgraph.specs.JobTree.{job_tree};
+ghost use Rattle.px_callgraph.specs.Alternatives.{Walk as WalkOf};
 ghost use Rattle.px_callgraph.specs.Derivations as spec;
-ghost use Rattle.px_walks.specs.Walks.{walk_of, leads_of};
+ghost use Rattle.px_walks.specs.Walks.{walk_of, at_walk};
+ghost use Rattle.px_check.specs.Leading.{leads_at};
 
-use px_callgraph::{Job, StepOutcome, Way};
+use px_callgraph::{Job, Way};
+use px_steps::Led;
 use px_terms::NoMemory;
-use px_walks::{Walk, act, is_listed};
+use px_walks::{Walk, act_in, is_listed};
 use std::alloc::Global;
 
 // What an act leads to where the path goes on or ends.
-fn still_there(leads: StepOutcome<Walk>) -> Option<StepOutcome<Walk>>
-    ensures { option_map leads_of result ≡ spec.still_there (leads_of leads.entry) }
+fn still_there(led: Option<Led>) -> Option<Led>
+    ensures { (w : WalkOf) → leads_at w result ≡ spec.still_there (at_walk led w) }
 {
-    match leads {
-        StepOutcome::Next(_) | StepOutcome::Ends(_, _, _) => Some(leads),
-        StepOutcome::Cut(_, _) | StepOutcome::Past(_) => None,
+    match led {
+        Some(Led::Goes) => Some(Led::Goes),
+        Some(Led::Ends(exit, given)) => Some(Led::Ends(exit, given)),
+        Some(Led::Cut(_)) => None,
+        None => None,
     }
 }
 
-/// Takes a way, if it is listed and the path goes on there or ends.
+/// Takes a way, if it is listed and the path goes on there or ends. The walk is changed in its place.
 pub(crate) fn take_listed<'a>(
     alloc: Global,
     job: &'a Job,
-    walk: Walk<'a>,
+    walk: &mut Walk<'a>,
     way: Way,
-) -> Result<Option<StepOutcome<Walk<'a>>>, NoMemory>
-    ensures { IfOk result (λ leads. option_map leads_of leads ≡ spec.take_listed (job_tree job.now) (walk_of walk.entry) way) }
+) -> Result<Option<Led>, NoMemory>
+    ensures { IfOk result (λ led. leads_at (walk_of walk.new) led ≡ spec.take_listed (job_tree job.now) (walk_of walk.old) way) }
 {
-    if is_listed(alloc, job, &walk, way)? {
-        Ok(still_there(act(alloc, job, walk, way)?))
+    if is_listed(alloc, job, walk, way)? {
+        Ok(still_there(act_in(alloc, job, walk, way)?))
     } else {
         Ok(None)
     }

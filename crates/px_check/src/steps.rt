@@ -11,8 +11,9 @@ ghost use Rattle.px_check.specs.Courses.{course_of, place_of, IsSortedCourse};
 
 use crate::forks::{Fork, keep};
 use crate::turns::{Turn, do_next};
-use px_callgraph::{Job, State, StepOutcome};
+use px_callgraph::{Job, State};
 use px_entry::{Exit, Rule, Step};
+use px_steps::Led;
 use px_terms::{Content, NoMemory};
 use std::alloc::Global;
 
@@ -91,25 +92,25 @@ pub(crate) fn follow<'a, 's>(
     ensures forks { OnOk result (All (IsForkOf (job_tree job.now)) forks.new.items) }
 {
     let mut place = from.place;
-    let mut leads = StepOutcome::Next(from.walk);
+    let mut walk = from.walk;
+    let mut led = Led::Goes;
     let mut left = wanted.len();
     loop {
-        match leads {
-            StepOutcome::Next(walk) => {
+        match led {
+            Led::Goes => {
                 left = keep(alloc, steps, place, &walk, wanted, left, forks)?;
-                match do_next(alloc, job, steps, place, walk)? {
-                    Turn::Goes(next, to) => {
+                match do_next(alloc, job, steps, place, &mut walk)? {
+                    Turn::Taken(next, to) => {
                         place = next;
-                        leads = to;
+                        led = to;
                     }
                     Turn::Fails(next) => return Ok(failed(steps, next)),
                 }
             }
-            StepOutcome::Ends(state, exit, given) => {
-                return Ok(ended(steps, place, state, exit, given));
+            Led::Ends(exit, given) => {
+                return Ok(ended(steps, place, walk.state, exit, given));
             }
-            StepOutcome::Cut(_, _) => return Ok(failed(steps, place)),
-            StepOutcome::Past(_) => return Ok(failed(steps, place)),
+            Led::Cut(_) => return Ok(failed(steps, place)),
         }
     }
 }

@@ -1,17 +1,19 @@
-ghost use Rattle.std.specs.Prelude.{◌≡◌, ◌∷◌, [], false, true, List, IfOk, option_map};
+ghost use Rattle.std.specs.Prelude.{◌≡◌, ◌∷◌, [], false, true, List, IfOk};
 ghost use Rattle.px_core.specs.CommandTree.{command_tree};
 ghost use Rattle.px_core.specs.Control.{Item, Act};
 ghost use Rattle.px_callgraph.specs.JobTree.{job_tree};
 ghost use Rattle.px_callgraph.specs.Derivations as spec;
 ghost use Rattle.px_walks.specs.Nexts.{items_from, IsNext};
-ghost use Rattle.px_walks.specs.Walks.{walk_of, leads_of};
+ghost use Rattle.px_walks.specs.Walks.{walk_of};
+ghost use Rattle.px_check.specs.Leading.{lead_at, leads_at};
 ghost use Rattle.px_check.specs.Steps.{is_call, take_named, is_call_rule};
 
 use crate::listed::take_listed;
 use crate::named::named_way;
-use px_callgraph::{Job, StepOutcome, Way};
+use px_callgraph::{Job, Way};
 use px_core::Command;
 use px_entry::{Rule, Step};
+use px_steps::Led;
 use px_terms::NoMemory;
 use px_walks::{Upcoming, Walk, choice_way};
 use std::alloc::Global;
@@ -37,17 +39,18 @@ fn is_call(next: Upcoming) -> bool
 fn take_choice<'a>(
     alloc: Global,
     job: &'a Job,
-    leads: StepOutcome<Walk<'a>>,
+    walk: &mut Walk<'a>,
+    led: Led,
     choice: u32,
-) -> Result<Option<StepOutcome<Walk<'a>>>, NoMemory>
-    ensures { IfOk result (λ taken. option_map leads_of taken ≡ spec.take_way (job_tree job.now) (spec.choice_way choice) (leads_of leads.entry)) }
+) -> Result<Option<Led>, NoMemory>
+    ensures { IfOk result (λ taken. leads_at (walk_of walk.new) taken ≡ spec.take_way (job_tree job.now) (spec.choice_way choice) (lead_at (walk_of walk.old) led)) }
 {
-    match leads {
-        StepOutcome::Next(walk) => {
-            let way = choice_way(&walk, choice);
+    match led {
+        Led::Goes => {
+            let way = choice_way(walk, choice);
             take_listed(alloc, job, walk, way)
         }
-        StepOutcome::Ends(_, _, _) | StepOutcome::Cut(_, _) | StepOutcome::Past(_) => Ok(None),
+        Led::Ends(_, _) | Led::Cut(_) => Ok(None),
     }
 }
 
@@ -55,13 +58,14 @@ fn take_choice<'a>(
 fn take_on<'a>(
     alloc: Global,
     job: &'a Job,
-    leads: StepOutcome<Walk<'a>>,
-) -> Result<Option<StepOutcome<Walk<'a>>>, NoMemory>
-    ensures { IfOk result (λ taken. option_map leads_of taken ≡ spec.take_choices (job_tree job.now) [] (leads_of leads.entry)) }
+    walk: &mut Walk<'a>,
+    led: Led,
+) -> Result<Option<Led>, NoMemory>
+    ensures { IfOk result (λ taken. leads_at (walk_of walk.new) taken ≡ spec.take_choices (job_tree job.now) [] (lead_at (walk_of walk.old) led)) }
 {
-    match leads {
-        StepOutcome::Next(walk) => take_listed(alloc, job, walk, Way::On),
-        StepOutcome::Ends(_, _, _) | StepOutcome::Cut(_, _) | StepOutcome::Past(_) => Ok(None),
+    match led {
+        Led::Goes => take_listed(alloc, job, walk, Way::On),
+        Led::Ends(_, _) | Led::Cut(_) => Ok(None),
     }
 }
 
@@ -69,32 +73,33 @@ fn take_on<'a>(
 fn take_choices<'a>(
     alloc: Global,
     job: &'a Job,
-    leads: StepOutcome<Walk<'a>>,
+    walk: &mut Walk<'a>,
+    led: Led,
     choices: &[u32],
-) -> Result<Option<StepOutcome<Walk<'a>>>, NoMemory>
-    ensures { IfOk result (λ taken. option_map leads_of taken ≡ spec.take_choices (job_tree job.now) choices.now (leads_of leads.entry)) }
+) -> Result<Option<Led>, NoMemory>
+    ensures { IfOk result (λ taken. leads_at (walk_of walk.new) taken ≡ spec.take_choices (job_tree job.now) choices.now (lead_at (walk_of walk.old) led)) }
 {
-    let mut leads = leads;
+    let mut led = led;
     for i in 0..choices.len() {
-        match take_choice(alloc, job, leads, choices[i])? {
-            Some(next) => leads = next,
+        match take_choice(alloc, job, walk, led, choices[i])? {
+            Some(next) => led = next,
             None => return Ok(None),
         }
     }
-    take_on(alloc, job, leads)
+    take_on(alloc, job, walk, led)
 }
 
 // A whole call.
 fn take_call<'a>(
     alloc: Global,
     job: &'a Job,
-    walk: Walk<'a>,
+    walk: &mut Walk<'a>,
     choices: &[u32],
-) -> Result<Option<StepOutcome<Walk<'a>>>, NoMemory>
-    ensures { IfOk result (λ taken. option_map leads_of taken ≡ spec.then_take (spec.take_choices (job_tree job.now) choices.now) (spec.take_listed (job_tree job.now) (walk_of walk.entry) Way.On)) }
+) -> Result<Option<Led>, NoMemory>
+    ensures { IfOk result (λ taken. leads_at (walk_of walk.new) taken ≡ spec.then_take (spec.take_choices (job_tree job.now) choices.now) (spec.take_listed (job_tree job.now) (walk_of walk.old) Way.On)) }
 {
     match take_listed(alloc, job, walk, Way::On)? {
-        Some(leads) => take_choices(alloc, job, leads, choices),
+        Some(led) => take_choices(alloc, job, walk, led, choices),
         None => Ok(None),
     }
 }
@@ -109,11 +114,11 @@ fn is_call_rule(rule: Rule) -> bool
 fn call_step<'a>(
     alloc: Global,
     job: &'a Job,
-    walk: Walk<'a>,
+    walk: &mut Walk<'a>,
     step: &Step,
-) -> Result<Option<StepOutcome<Walk<'a>>>, NoMemory>
-    requires { is_call (walk_of walk).control ≡ true }
-    ensures { IfOk result (λ taken. option_map leads_of taken ≡ spec.item_step (job_tree job.now) (walk_of walk.entry) (walk_of walk.entry).control step.now.rule step.now.choices) }
+) -> Result<Option<Led>, NoMemory>
+    requires { is_call (walk_of walk.old).control ≡ true }
+    ensures { IfOk result (λ taken. leads_at (walk_of walk.new) taken ≡ spec.item_step (job_tree job.now) (walk_of walk.old) (walk_of walk.old).control step.now.rule step.now.choices) }
 {
     if is_call_rule(step.rule) {
         take_call(alloc, job, walk, step.choices.as_slice())
@@ -126,10 +131,10 @@ fn call_step<'a>(
 fn take_named<'a>(
     alloc: Global,
     job: &'a Job,
-    walk: Walk<'a>,
+    walk: &mut Walk<'a>,
     named: Option<Way>,
-) -> Result<Option<StepOutcome<Walk<'a>>>, NoMemory>
-    ensures { IfOk result (λ taken. option_map leads_of taken ≡ take_named (job_tree job.now) (walk_of walk.entry) named) }
+) -> Result<Option<Led>, NoMemory>
+    ensures { IfOk result (λ taken. leads_at (walk_of walk.new) taken ≡ take_named (job_tree job.now) (walk_of walk.old) named) }
 {
     match named {
         Some(way) => take_listed(alloc, job, walk, way),
@@ -141,13 +146,13 @@ fn take_named<'a>(
 fn named_step<'a>(
     alloc: Global,
     job: &'a Job,
-    walk: Walk<'a>,
+    walk: &mut Walk<'a>,
     next: Upcoming<'a>,
     step: &Step,
-) -> Result<Option<StepOutcome<Walk<'a>>>, NoMemory>
-    requires next { (rest : List Item) × IsNext next (walk_of walk).control rest }
-    requires other { is_call (walk_of walk).control ≡ false }
-    ensures { IfOk result (λ taken. option_map leads_of taken ≡ spec.item_step (job_tree job.now) (walk_of walk.entry) (walk_of walk.entry).control step.now.rule step.now.choices) }
+) -> Result<Option<Led>, NoMemory>
+    requires next { (rest : List Item) × IsNext next (walk_of walk.old).control rest }
+    requires other { is_call (walk_of walk.old).control ≡ false }
+    ensures { IfOk result (λ taken. leads_at (walk_of walk.new) taken ≡ spec.item_step (job_tree job.now) (walk_of walk.old) (walk_of walk.old).control step.now.rule step.now.choices) }
 {
     let named = named_way(
         walk.state.atoms.as_slice(),
@@ -162,12 +167,12 @@ fn named_step<'a>(
 pub(crate) fn take_step<'a>(
     alloc: Global,
     job: &'a Job,
-    walk: Walk<'a>,
+    walk: &mut Walk<'a>,
     next: Upcoming<'a>,
     step: &Step,
-) -> Result<Option<StepOutcome<Walk<'a>>>, NoMemory>
-    requires { (rest : List Item) × IsNext next (walk_of walk).control rest }
-    ensures { IfOk result (λ taken. option_map leads_of taken ≡ spec.item_step (job_tree job.now) (walk_of walk.entry) (walk_of walk.entry).control step.now.rule step.now.choices) }
+) -> Result<Option<Led>, NoMemory>
+    requires { (rest : List Item) × IsNext next (walk_of walk.old).control rest }
+    ensures { IfOk result (λ taken. leads_at (walk_of walk.new) taken ≡ spec.item_step (job_tree job.now) (walk_of walk.old) (walk_of walk.old).control step.now.rule step.now.choices) }
 {
     if is_call(next) {
         call_step(alloc, job, walk, step)

@@ -11,17 +11,18 @@ ghost use Rattle.px_check.specs.Courses.{IsBehindUse, TakesTurn};
 use crate::listed::take_listed;
 use crate::named::is_same_rule;
 use crate::taken::take_step;
-use px_callgraph::{Job, StepOutcome, Way};
+use px_callgraph::{Job, Way};
 use px_entry::{Rule, Step};
+use px_steps::Led;
 use px_terms::NoMemory;
 use px_walks::{Upcoming, Walk, freed_rule, is_silent, live_rule, next_item};
 use std::alloc::Global;
 
 /// What comes of the next item of a path.
 #[derive(Drop)]
-pub(crate) enum Turn<'a> {
-    /// The path goes on, and the step with this number is the next.
-    Goes(u32, StepOutcome<Walk<'a>>),
+pub(crate) enum Turn {
+    /// A turn was taken, and the step with this number is the next.
+    Taken(u32, Led),
     /// The step with this number fails, or is missing.
     Fails(u32),
 }
@@ -86,13 +87,13 @@ fn silent_turn<'a>(
     alloc: Global,
     job: &'a Job,
     place: u32,
-    walk: Walk<'a>,
-) -> Result<Turn<'a>, NoMemory>
-    requires { spec.is_silent (walk_of walk).control ≡ true }
-    ensures { IfOk result (λ turn. (steps : List StepOf) → TakesTurn (job_tree job.now) steps (walk_of walk.entry) place turn) }
+    walk: &mut Walk<'a>,
+) -> Result<Turn, NoMemory>
+    requires { spec.is_silent (walk_of walk.old).control ≡ true }
+    ensures { IfOk result (λ turn. (steps : List StepOf) → TakesTurn (job_tree job.now) steps (walk_of walk.old) place (walk_of walk.new) turn) }
 {
     match take_listed(alloc, job, walk, Way::On)? {
-        Some(leads) => Ok(Turn::Goes(place, leads)),
+        Some(led) => Ok(Turn::Taken(place, led)),
         None => Ok(Turn::Fails(place)),
     }
 }
@@ -103,13 +104,13 @@ fn step_turn<'a>(
     job: &'a Job,
     steps: &[Step],
     place: u32,
-    walk: Walk<'a>,
+    walk: &mut Walk<'a>,
     next: Upcoming<'a>,
-) -> Result<Turn<'a>, NoMemory>
+) -> Result<Turn, NoMemory>
     requires few { place + 2 < 2 ^ 32 }
-    requires next { (rest : List Item) × IsNext next (walk_of walk).control rest }
-    requires own { spec.is_silent (walk_of walk).control ≡ false }
-    ensures { IfOk result (TakesTurn (job_tree job.now) steps.now (walk_of walk.entry) place) }
+    requires next { (rest : List Item) × IsNext next (walk_of walk.old).control rest }
+    requires own { spec.is_silent (walk_of walk.old).control ≡ false }
+    ensures { IfOk result (TakesTurn (job_tree job.now) steps.now (walk_of walk.old) place (walk_of walk.new)) }
 {
     let Some(step) = steps.get(place as usize) else {
         return Ok(Turn::Fails(place));
@@ -117,11 +118,11 @@ fn step_turn<'a>(
     let atom = walk.state.atoms.len();
     let owed = use_rule(next, step.rule);
     let taken = take_step(alloc, job, walk, next, step)?;
-    let Some(leads) = taken else {
+    let Some(led) = taken else {
         return Ok(Turn::Fails(place));
     };
     match after_use(steps, place + 1, owed, atom) {
-        Some(behind) => Ok(Turn::Goes(behind, leads)),
+        Some(behind) => Ok(Turn::Taken(behind, led)),
         None => Ok(Turn::Fails(place + 1)),
     }
 }
@@ -132,12 +133,12 @@ pub(crate) fn do_next<'a>(
     job: &'a Job,
     steps: &[Step],
     place: u32,
-    walk: Walk<'a>,
-) -> Result<Turn<'a>, NoMemory>
+    walk: &mut Walk<'a>,
+) -> Result<Turn, NoMemory>
     requires { place + 2 < 2 ^ 32 }
-    ensures { IfOk result (TakesTurn (job_tree job.now) steps.now (walk_of walk.entry) place) }
+    ensures { IfOk result (TakesTurn (job_tree job.now) steps.now (walk_of walk.old) place (walk_of walk.new)) }
 {
-    let next = next_item(&walk);
+    let next = next_item(walk);
     if is_silent(next) {
         silent_turn(alloc, job, place, walk)
     } else {

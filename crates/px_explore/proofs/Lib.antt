@@ -6,6 +6,7 @@ pub mod OwnLemmas
 pub mod DerivedLemmas
 pub mod StandLemmas
 pub mod StopLemmas
+pub mod OnLemmas
 pub mod HeldLemmas
 pub mod AfterLemmas
 pub mod TrailLemmas

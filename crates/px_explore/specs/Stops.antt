@@ -8,6 +8,8 @@ use Rattle.px_callgraph.specs.Laws.{IsReached, IsAskable}
 use Rattle.px_walks.specs.Walks.{walk_of}
 use Rattle.px_symexec.specs.Prefixes.{Prefix, Dead, Choice, Ended, Dropped, Past, stop_of}
 use Rattle.px_explore.specs.declared.stops.Fork.{Fork}
+use Rattle.px_explore.specs.declared.stops.Listed.{Listed}
+use Rattle.px_explore.specs.declared.stops.Listed.TheVariants as L
 use Rattle.px_explore.specs.declared.stops.Stop.{Stop}
 use Rattle.px_explore.specs.declared.stops.Stop.TheVariants as S
 use Rattle.px_explore.specs.Taken.{steps_with}
@@ -55,6 +57,12 @@ ForksRightly j (S.Choice f) = IsFork j f
 ForksRightly j (S.Ended s exit result) = ⊤
 ForksRightly j (S.Dropped s gap) = ⊤
 ForksRightly j (S.Past s) = ⊤
+
+-- these ways are none, one, or several, which are lent as they are
+abbrev pub AreListed : List Way → Listed → Type 0
+AreListed ways L.Nothing = ways ≡ []
+AreListed ways (L.One way) = ways ≡ way ∷ []
+AreListed ways (L.Several some) = (some.items ≡ ways) × (1 < length some.items)
 
 -- these paths are the one that stops there, by these steps, and its extensions
 pub record IsStop (j : JobTree) (ps : List Path) (steps : List Step) (stop : Stop) : Type 0 where

@@ -2,6 +2,7 @@ ghost use Rattle.std.specs.Prelude.{◌≡◌, ◌≤◌, length, IfOk, OnOk};
 ghost use Rattle.px_base.specs.Bounds.{most_variables};
 ghost use Rattle.px_core.specs.BodyTree.{body_tree};
 ghost use Rattle.px_callgraph.specs.JobTree.{job_tree};
+ghost use Rattle.px_callgraph.specs.declared.outcomes.StepOutcome.TheVariants as outcome;
 ghost use Rattle.px_callgraph.specs.Alternatives as spec;
 ghost use Rattle.px_callgraph.specs.ActsLeft.{state_of};
 ghost use Rattle.px_walks.specs.Walks.{walk_of, leads_of};
@@ -9,14 +10,15 @@ ghost use Rattle.px_symexec.specs.Prefixes.{stop_of};
 ghost use Rattle.px_explore.specs.Stands.{Stands};
 ghost use Rattle.px_explore.specs.Taken.{steps_with};
 ghost use Rattle.px_explore.specs.Paths.{paths};
-ghost use Rattle.px_explore.specs.Stops.{prefix_of, IsStop};
+ghost use Rattle.px_explore.specs.Stops.{prefix_of, AreListed, IsStop};
 ghost use Rattle.px_explore.specs.Trails.{IsAfter};
 
 use crate::taken::put_steps;
 use px_callgraph::{Job, State, StepOutcome, Way};
 use px_entry::{Exit, Gap, Step};
+use px_steps::Led;
 use px_terms::{Content, Items, NoMemory};
-use px_walks::{Walk, act, ways};
+use px_walks::{Walk, act, act_in, goes_on, ways};
 use std::alloc::Global;
 use std::mem::replace;
 
@@ -38,6 +40,28 @@ pub(crate) struct Fork<'a> {
     pub(crate) ways: Vec<Way>,
 }
 
+// The ways that are listed where a path stands.
+enum Listed {
+    Nothing,
+    One(Way),
+    Several(Vec<Way>),
+}
+
+// What is listed where a path stands. Of one way alone no list is made, where that is seen.
+fn next_ways(alloc: Global, job: &Job, walk: &Walk) -> Result<Listed, NoMemory>
+    ensures { IfOk result (λ l. AreListed (spec.ways (job_tree job.now) (walk_of walk.now)) l) }
+{
+    if goes_on(job, walk) {
+        return Ok(Listed::One(Way::On));
+    }
+    let all = ways(alloc, job, walk)?;
+    match all.as_slice() {
+        [] => Ok(Listed::Nothing),
+        [way] => Ok(Listed::One(*way)),
+        _ => Ok(Listed::Several(all)),
+    }
+}
+
 // Goes on as long as one way is listed alone, and puts its steps after those so far. A point of choice takes them all.
 pub(crate) fn run_on<'a>(
     alloc: Global,
@@ -50,26 +74,45 @@ pub(crate) fn run_on<'a>(
     ensures after { IfOk result (λ stop. IsAfter (state_of (leads_of from.entry)) (stop_of (prefix_of stop))) }
     ensures stop { IfOk result (λ stop. IsStop (job_tree job.now) (paths (job_tree job.now) steps.old (leads_of from.entry)) steps.new stop) }
 {
-    let mut here = from;
+    match from {
+        StepOutcome::Next(walk) => walk_on(alloc, job, walk, steps),
+        StepOutcome::Ends(state, exit, result) => Ok(Stop::Ended(state, exit, result)),
+        StepOutcome::Cut(state, gap) => Ok(Stop::Dropped(state, gap)),
+        StepOutcome::Past(state) => Ok(Stop::Past(state)),
+    }
+}
+
+// The same from where a walk stands. It is changed in its place.
+fn walk_on<'a>(
+    alloc: Global,
+    job: &'a Job,
+    from: Walk<'a>,
+    steps: &mut Items<Step>,
+) -> Result<Stop<'a>, NoMemory>
+    requires parameters { length job.now.body.parameters ≤ most_variables }
+    requires stands { Stands (job_tree job.now) (outcome.Next (walk_of from)) }
+    ensures after { IfOk result (λ stop. IsAfter from.entry.state (stop_of (prefix_of stop))) }
+    ensures stop { IfOk result (λ stop. IsStop (job_tree job.now) (paths (job_tree job.now) steps.old (outcome.Next (walk_of from.entry))) steps.new stop) }
+{
+    let mut walk = from;
     loop {
-        match here {
-            StepOutcome::Next(walk) => {
-                let listed = ways(alloc, job, &walk)?;
-                if listed.len() == 0 {
-                    return Ok(Stop::Dead(walk.state));
-                }
-                if listed.len() > 1 {
-                    return Ok(Stop::Choice(Fork {
-                        walk,
-                        steps: replace(steps, Items::new(alloc)),
-                        ways: listed,
-                    }));
-                }
-                here = take(alloc, job, walk, listed[0], steps)?;
+        let way = match next_ways(alloc, job, &walk)? {
+            Listed::Nothing => return Ok(Stop::Dead(walk.state)),
+            Listed::Several(ways) => {
+                return Ok(Stop::Choice(Fork {
+                    walk,
+                    steps: replace(steps, Items::new(alloc)),
+                    ways,
+                }));
             }
-            StepOutcome::Ends(state, exit, result) => return Ok(Stop::Ended(state, exit, result)),
-            StepOutcome::Cut(state, gap) => return Ok(Stop::Dropped(state, gap)),
-            StepOutcome::Past(state) => return Ok(Stop::Past(state)),
+            Listed::One(way) => way,
+        };
+        put_steps(alloc, &walk, way, steps)?;
+        match act_in(alloc, job, &mut walk, way)? {
+            Some(Led::Goes) => {}
+            Some(Led::Ends(exit, result)) => return Ok(Stop::Ended(walk.state, exit, result)),
+            Some(Led::Cut(gap)) => return Ok(Stop::Dropped(walk.state, gap)),
+            None => return Ok(Stop::Past(walk.state)),
         }
     }
 }

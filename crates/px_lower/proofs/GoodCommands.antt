@@ -14,15 +14,15 @@ use Rattle.px_syntax.specs.declared.typed_expression.Arithmetic.{Arithmetic}
 use Rattle.px_syntax.specs.declared.typed_expression.Arithmetic.TheVariants as arith
 use Rattle.px_syntax.specs.declared.typed_expression.Relation.{Relation}
 use Rattle.px_syntax.specs.declared.typed_expression.Relation.TheVariants as relation
-use Rattle.px_syntax.specs.TypedTree.{Expression, constant, null, local, negated, arithmetic, truth, cell, allocate, get_char, call, stop, Expressions, no_expressions, an_expression, Arguments, no_arguments, an_argument, passed, erased, Condition, compare, word, pointer, both, either, opposite, Place, local_place, cell_place, Statement, block, declare, assign, update, run_call, free, input, choose, loop, break, continue, return, evaluate, Statements, no_statements, a_statement}
+use Rattle.px_syntax.specs.TypedTree.{Expression, constant, null, local, negated, arithmetic, truth, cell, allocate, get_char, call, stop, Expressions, no_expressions, an_expression, Arguments, no_arguments, an_argument, passed, erased, Condition, compare, word, pointer, both, either, opposite, Place, local_place, cell_place, Statement, block, declare, assign, update, run_call, free, input, choose, loop, break, continue, return, evaluate, access, Statements, no_statements, a_statement}
 use Rattle.px_syntax.specs.ProgramTree.{ProcedureTree}
 use Rattle.px_meaning.specs.Values.{TypeId, ValueType, Int, Pointer}
 use Rattle.px_meaning.specs.CoreTypes.{SlotTypes, IsOperandOf, AreOperandsOf, IsOperationOf, IsTyped, AreTyped}
 use Rattle.px_meaning.specs.TypedProgram.{TypedProgram}
 use Rattle.px_meaning.proofs.TypedSteps.{none_fits, one_fits}
-use Rattle.px_meaning.specs.TreeTypes.{LocalTypes, type_of_cell, AgreesWith, IsOf, AreOf, ArePassed, IsCondition, IsPlaceOf, IsConditionIf, IsDeclared, IsReturned, IsStep, IsStatement, AreStatements}
+use Rattle.px_meaning.specs.TreeTypes.{LocalTypes, type_of_cell, AgreesWith, IsOf, AreOf, ArePassed, IsCondition, IsPlaceOf, IsConditionIf, IsDeclared, IsReturned, IsStep, AreSteps, IsStatement, AreStatements}
 use Rattle.px_meaning.proofs.TypedTrees.{defined_some}
-use Rattle.px_lower.specs.Lowering.{Lowered, and_then, doing, giving, copy, comparison, copied, loaded, reached, lowered_expression, lowered_arguments, lowered_passed, lowered_condition, lowered_declaration, lowered_assignment, lowered_update, lowered_head, lowered_return, lowered_statement, lowered_statements, applied, result_slot}
+use Rattle.px_lower.specs.Lowering.{Lowered, and_then, doing, giving, copy, comparison, copied, loaded, reached, lowered_expression, lowered_arguments, lowered_passed, lowered_condition, lowered_declaration, lowered_assignment, lowered_update, lowered_access, lowered_head, lowered_return, lowered_statement, lowered_statements, applied, result_slot}
 use Rattle.px_lower.specs.LoweredProgram.{lowered, lowered_program}
 use Rattle.px_lower.proofs.NewSlots.{NewSlot, holding, an_outcome, Kinds, past_then, past_grows, split, Said, Slotted, alone, stopped, slotted_then, slotted_before}
 
@@ -440,6 +440,15 @@ module _ (P : TypedProgram) (locals : LocalTypes) (result : Option ValueType) (m
         (λ new. takes_none _ Any (suc (result_slot op y.next)) _ tt (λ K N g.
         (one place K N (command.store at field b new site) refl ((g.0.0.0.1.0, (Int, hp.1, g.1.0)), (g.0.0.0.1.1, g.1.1)), tt))))))
 
+    access_good : (given : Kinds → ℕ → Type 0) → Has given → (p : Expression) (parts : Expressions) (field : FieldId) (b : TypeId) (site : Site) (n : ℕ) → IsOf P locals (Pointer b) p → ArePassed P locals parts →
+        (t : ValueType) → type_of_cell P.types b field ≡ Some t → Good given n (lowered_access p parts field b site n) Any
+    access_good given has p parts field b site n h hs t type =
+        let x = lowered_expression p n in
+        let y = lowered_passed parts x.next in
+        then' given (Of (Pointer b)) Any n x _ (expression_good given has (Pointer b) p n h) (λ a.
+        then' _ Any Any x.next y (λ _ n. reached a field b site n) (passed_good _ (λ K N g. has K N g.0) parts x.next hs) (λ u.
+        gives_new _ Any y.next (holding t) _ tt (λ K N g room is. (load_unset place K N y.next a field b t site room is type g.0.1, tt))))
+
     return_good : (given : Kinds → ℕ → Type 0) → Has given → (o : Option ValueType) (e : Option Expression) (n : ℕ) → o ≡ result → IsReturned P locals o e → Good given n (lowered_return e n) Any
     return_good given has None None n is h = takes_none given Any n _ tt (λ K N g. (one place K N (command.return None) refl (tt, tt), tt))
     return_good given has None (Some e) n is h = absurd h
@@ -514,6 +523,7 @@ module _ (P : TypedProgram) (locals : LocalTypes) (result : Option ValueType) (m
     statement_good inside place stands given has continue n h = takes_none place given Any n _ tt (λ K N g. (one place K N command.continue refl (tt, stands h), tt))
     statement_good inside place stands given has (return e) n h = return_good place given has result e n refl h
     statement_good inside place stands given has (evaluate e) n h = passed_good place given has (an_expression e no_expressions) n h
+    statement_good inside place stands given has (access p parts field b site) n h = access_good place given has p parts field b site n h.0 h.1 h.2.0 h.2.1
 
     statements_good : (inside : Bool) (place : Where) → Stands inside place → (given : Kinds → ℕ → Type 0) → Has place given → (ss : Statements) (n : ℕ) → AreStatements P locals result inside ss → Good place given n (lowered_statements ss n) Any
     statements_good inside place stands given has no_statements n h = takes_none place given Any n [] tt (λ K N g. (none place K N, tt))
@@ -523,8 +533,7 @@ module _ (P : TypedProgram) (locals : LocalTypes) (result : Option ValueType) (m
 
     -- the step of a loop neither breaks nor continues
     step_good : (given : Kinds → ℕ → Type 0) → Has InStep given → (s : Statement) (n : ℕ) → IsStep P locals s → (inside : Bool) → IsStatement P locals result inside s → Good InStep given n (lowered_statement s n) Any
-    step_good given has (block no_statements) n k inside h = takes_none InStep given Any n [] tt (λ K N g. (none InStep K N, tt))
-    step_good given has (block (a_statement s rest)) n k inside h = absurd k
+    step_good given has (block statements) n k inside h = steps_good given has statements n k inside h
     step_good given has (assign to e) n k inside h = assignment_good InStep given has h.0 to e n h.1 h.2
     step_good given has (update op to e) n k inside h = update_good InStep given has op to e n h.0 h.1
     step_good given has (run_call proc es site) n k inside h =
@@ -543,3 +552,10 @@ module _ (P : TypedProgram) (locals : LocalTypes) (result : Option ValueType) (m
     step_good given has continue n k inside h = absurd k
     step_good given has (return e) n k inside h = absurd k
     step_good given has (evaluate e) n k inside h = passed_good InStep given has (an_expression e no_expressions) n h
+    step_good given has (access p parts field b site) n k inside h = access_good InStep given has p parts field b site n h.0 h.1 h.2.0 h.2.1
+
+    steps_good : (given : Kinds → ℕ → Type 0) → Has InStep given → (ss : Statements) (n : ℕ) → AreSteps P locals ss → (inside : Bool) → AreStatements P locals result inside ss → Good InStep given n (lowered_statements ss n) Any
+    steps_good given has no_statements n k inside h = takes_none InStep given Any n [] tt (λ K N g. (none InStep K N, tt))
+    steps_good given has (a_statement s rest) n k inside h =
+        let x = lowered_statement s n in
+        then' InStep given Any Any n x _ (step_good given has s n k.0 inside h.0) (λ u. steps_good _ (λ K N g. has K N g.0) rest x.next k.1 inside h.1)

@@ -323,7 +323,7 @@ module _ {E : Type 0} (w : Way) (seen : Event → E) (bound : Option ℕ) (types
       (ways w (λ h. elim h [ inl h ↦ (let d : Word (pos 0) ≡ Word (pos 1) = sym e ∙ h.0 in cc) | inr h ↦ h.1 ]) (λ h. inr (e, h)))
 
   -- a cell that isn't read
-  skipped : (to : ℕ) (at : Operand) (field : FieldId) (block : TypeId) (site : Site) (n : ℕ) (before slots : List Value) (v : Value) (so_far : List E) (heap : HeapMap) (err : List E → Halt → Site → HeapMap → Type 0) (on : List E → HeapMap → Type 0) (k : List Item) →
+  pub skipped : (to : ℕ) (at : Operand) (field : FieldId) (block : TypeId) (site : Site) (n : ℕ) (before slots : List Value) (v : Value) (so_far : List E) (heap : HeapMap) (err : List E → Halt → Site → HeapMap → Type 0) (on : List E → HeapMap → Type 0) (k : List Item) →
       Kept N n before slots → n ≤ to → operand_value slots at ≡ v → ((so_far : List E) (heap : HeapMap) (slots' : List Value) → Kept N n before slots' → Meets w (M k slots' heap so_far) (on so_far heap)) → OnError err →
       Meets w (M (Act (load to at field block site) ∷ Act (command.unset to) ∷ k) slots heap so_far) (Reaches seen types tcalls v block site so_far heap err on)
   skipped to at field block site n before slots v so_far heap err on k kept le e go fail =

@@ -10,7 +10,7 @@ use Rattle.px_core.specs.declared.command.Operand.TheVariants as operand
 use Rattle.px_core.specs.CommandTree.{CommandTree, CommandTrees, assign, unset, read, load, store, leave, no_commands, a_command, commands_of}
 use Rattle.px_core.specs.CommandTree as command
 use Rattle.px_syntax.specs.declared.typed_expression.Arithmetic.{Arithmetic}
-use Rattle.px_syntax.specs.TypedTree.{Expression, get_char, Expressions, no_expressions, an_expression, Condition, Place, local_place, cell_place, Statement, block, declare, update, run_call, free, input, choose, loop, break, continue, return, evaluate, Statements, no_statements, a_statement}
+use Rattle.px_syntax.specs.TypedTree.{Expression, get_char, Expressions, no_expressions, an_expression, Condition, Place, local_place, cell_place, Statement, block, declare, update, run_call, free, input, choose, loop, break, continue, return, evaluate, access, Statements, no_statements, a_statement}
 use Rattle.px_syntax.specs.TypedTree as tree
 use Rattle.px_meaning.specs.Values.{TypeId, BlockType, Value, Word, Unwritten}
 use Rattle.px_meaning.specs.Heaps.{HeapMap, with_block}
@@ -21,13 +21,13 @@ use Rattle.px_meaning.specs.Operations.{operand_value}
 use Rattle.px_core.specs.Control.{Item, Act, AfterHead, AfterBody, AfterStep, Turns, acts, one_turn_more, break_to, continue_to}
 use Rattle.px_meaning.specs.Steps.{ProcedureCalls, marking, by_pointer, live_block, freed_block, Allows, step}
 use Rattle.px_meaning.specs.CoreCalls.{Behind}
-use Rattle.px_meaning.specs.TreeExecution.{by_outcome, yes, no, fault, Verdicts, Exit, falls, breaks, continues, returns, fails, Exits, with_fall, behind_body, Stores, Frees, failing, Takes, Declares, Assigns, Updates, TestsIf, Loops, GivesBack, Executes, ExecutesAll, Calculates}
-use Rattle.px_lower.specs.Lowering.{Lowered, and_then, doing, giving, lowered_expression, lowered_arguments, lowered_condition, lowered_declaration, lowered_assignment, lowered_update, lowered_head, lowered_return, lowered_statement, lowered_statements, copy, applied, operation, result_slot}
-use Rattle.px_lower.specs.Scopes.{IsWithin, IsWithinIf, IsTestWithinIf, IsPlaceWithin, IsStatementWithin, AreStatementsWithin}
+use Rattle.px_meaning.specs.TreeExecution.{by_outcome, yes, no, fault, Verdicts, Exit, falls, breaks, continues, returns, fails, Exits, with_fall, behind_body, Stores, Frees, failing, Takes, Declares, Assigns, Updates, Accesses, TestsIf, Loops, GivesBack, Executes, ExecutesAll, Calculates}
+use Rattle.px_lower.specs.Lowering.{Lowered, and_then, doing, giving, reached, lowered_expression, lowered_arguments, lowered_passed, lowered_condition, lowered_declaration, lowered_assignment, lowered_update, lowered_access, lowered_head, lowered_return, lowered_statement, lowered_statements, copy, applied, operation, result_slot}
+use Rattle.px_lower.specs.Scopes.{IsWithin, AreWithin, IsWithinIf, IsTestWithinIf, IsPlaceWithin, IsStatementWithin, AreStatementsWithin}
 use Rattle.px_lower.proofs.Ways.{Way, down, up, Meets, then', with', on_some, on_pointer, on_input}
 use Rattle.px_core.proofs.Acts.{break_acts, continue_acts}
 use Rattle.px_lower.proofs.Slots.{Kept, Agrees, kept_same, kept_set, kept_then, operand_kept, agrees_kept, agrees_set}
-use Rattle.px_lower.proofs.Numbers.{one_more, grows, grows_test, grows_head, grows_statement, grows_statements, operand_below, result_more}
+use Rattle.px_lower.proofs.Numbers.{one_more, grows, grows_passed, grows_test, grows_head, grows_statement, grows_statements, operand_below, result_more}
 use Rattle.px_lower.proofs.Sequences.{grown}
 use Rattle.px_lower.proofs.MeetsExpressions as expression
 
@@ -214,6 +214,29 @@ module _ {E : Type 0} (w : Way) (seen : Event → E) (bound : Option ℕ) (types
       (λ c there2 so_far2 v heap2 slots2 kept2 is2. next2 c there2 slots2 heap2 so_far2 _ (λ room4 value2.
       stored leaves j a field b c site u v locals slots2 so_far2 heap2 K k (agrees_kept N m x.next locals slots1 slots2 (le_trans le gx) agrees1 kept2)
       (operand_kept N x.next slots1 slots2 a (operand_below m n p lp le a there1) kept2 ∙ is1) is2 (all_exits leaves whole.value j k K (value1 tt (value2 tt refl)) exit)))))))
+
+  of_access : (leaves : Bool) (p : Expression) (parts : Expressions) (field : FieldId) (b : TypeId) (site : Site) (n : ℕ) → IsWithin m p → AreWithin m parts → m ≤ n → (lowered_access p parts field b site n).next ≤ N → (j : ℕ) →
+      Does leaves j (lowered_access p parts field b site n) (Accesses seen types tcalls p parts b site)
+  of_access leaves p parts field b site n lp l le room j locals slots so_far heap K k agrees exit =
+      let x = lowered_expression p n in
+      let y = lowered_passed parts x.next in
+      let whole = lowered_access p parts field b site n in
+      let gx : n ≤ x.next = grows p n in
+      let gy : x.next ≤ y.next = grows_passed parts x.next in
+      let mx : m ≤ x.next = le_trans le gx in
+      let err = λ (so_far' : List E) (kind : Halt) (at : Site) (heap' : HeapMap). exit so_far' (fails kind at) locals heap' slots tt agrees in
+      sequence j x _ k slots heap so_far (λ a. grown y (λ _ n. reached a field b site n) x.next gy (λ u. one_more y.next)) room (λ k1 room1 next1.
+      takes leaves whole.value j p n lp le room1 locals slots so_far heap K _ k1 k agrees exit
+      (λ a there1 so_far1 u heap1 slots1 kept1 is1. next1 a there1 slots1 heap1 so_far1 _ (λ room2 value1.
+      let agrees1 = agrees_kept N m n locals slots slots1 le agrees kept1 in
+      sequence j y (λ _ n. reached a field b site n) k slots1 heap1 so_far1 (λ u. one_more y.next) room2 (λ k2 room3 next2.
+      expression.of_passed w seen bound types ccalls tcalls ties t ending end (M j) (machine j) N m parts x.next l mx room3 locals slots1 so_far1 heap1 (failing seen types tcalls locals K) _ k2 agrees1
+      (λ done there2 so_far2 heap2 slots2 kept2. next2 done there2 slots2 heap2 so_far2 _ (λ room4 value2.
+      expression.skipped w seen bound types ccalls tcalls ties t ending end (M j) (machine j) N m y.next a field b site x.next slots1 slots2 u so_far2 heap2 (failing seen types tcalls locals K) _ k kept2 gy
+      (operand_kept N x.next slots1 slots2 a (operand_below m n p lp le a there1) kept2 ∙ is1)
+      (λ so_far3 heap3 slots3 kept3. exit so_far3 falls locals heap3 slots3 (value1 tt (value2 tt refl)) (agrees_kept N m x.next locals slots1 slots3 mx agrees1 kept3))
+      err))
+      err))))
 
   of_return : (leaves : Bool) (e : Option Expression) (n : ℕ) → IsWithinIf m e → m ≤ n → (lowered_return e n).next ≤ N → (j : ℕ) →
       Does leaves j (lowered_return e n) (GivesBack seen types tcalls e)
@@ -434,6 +457,7 @@ module _ {E : Type 0} (w : Way) (seen : Event → E) (bound : Option ℕ) (types
         expression.of_passed w seen bound types ccalls tcalls ties t ending end (M j) (machine j) N m (an_expression e no_expressions) n (l, tt) le room locals slots so_far heap (failing seen types tcalls locals K) _ k agrees
         (λ u there so_far' heap' slots' kept. exit so_far' falls locals heap' slots' there (agrees_kept N m n locals slots slots' le agrees kept))
         (λ so_far' kind at heap'. exit so_far' (fails kind at) locals heap' slots tt agrees)
+    of_statement leaves (access p parts field b site) n l le room j enough locals slots so_far heap K k agrees exit = of_access leaves p parts field b site n l.0 l.1 le room j locals slots so_far heap K k agrees exit
 
     pub of_statements : (leaves : Bool) (ss : Statements) (n : ℕ) → AreStatementsWithin m leaves ss → m ≤ n → (lowered_statements ss n).next ≤ N → (j : ℕ) → Enough w j turns →
         Does leaves j (lowered_statements ss n) (ExecutesAll seen types tcalls bound turns ss)

@@ -1,13 +1,16 @@
 -- New slots are taken in order: what lowering uses lies below the next new slot.
 use Rattle.std.proofs.Common.{◌≡◌, ℕ, suc, ◌<◌, ◌≤◌, Option, None, Some, subst, arith, le_refl, le_trans}
 use Rattle.std.proofs.lemmas.Option.{same_Some}
+use Rattle.px_base.specs.declared.trace.Site.{Site}
+use Rattle.px_base.specs.declared.trace.FieldId.{FieldId}
+use Rattle.px_terms.specs.declared.types.TypeId.{TypeId}
 use Rattle.px_syntax.specs.declared.typed_expression.Arithmetic.{Arithmetic}
-use Rattle.px_syntax.specs.TypedTree.{Expression, constant, null, local, negated, arithmetic, truth, cell, allocate, get_char, call, stop, Expressions, no_expressions, an_expression, Arguments, no_arguments, an_argument, passed, erased, Condition, compare, word, pointer, both, either, opposite, Place, local_place, cell_place, Statement, block, declare, assign, update, run_call, free, input, choose, loop, break, continue, return, evaluate, Statements, no_statements, a_statement}
+use Rattle.px_syntax.specs.TypedTree.{Expression, constant, null, local, negated, arithmetic, truth, cell, allocate, get_char, call, stop, Expressions, no_expressions, an_expression, Arguments, no_arguments, an_argument, passed, erased, Condition, compare, word, pointer, both, either, opposite, Place, local_place, cell_place, Statement, block, declare, assign, update, run_call, free, input, choose, loop, break, continue, return, evaluate, access, Statements, no_statements, a_statement}
 use Rattle.px_syntax.specs.declared.typed_expression.Arithmetic.TheVariants.{Add, Subtract, Multiply, Divide, Remainder}
 use Rattle.px_core.specs.declared.command.Operand.{Operand}
 use Rattle.px_core.specs.declared.command.Operand.TheVariants.{Slot, Word, Null}
 use Rattle.px_core.specs.WellFormed.{IsOperandBelow}
-use Rattle.px_lower.specs.Lowering.{lowered_expression, lowered_arguments, lowered_passed, lowered_condition, copied, lowered_declaration, lowered_assignment, lowered_update, lowered_head, lowered_return, lowered_statement, lowered_statements, result_slot}
+use Rattle.px_lower.specs.Lowering.{lowered_expression, lowered_arguments, lowered_passed, lowered_condition, reached, copied, lowered_declaration, lowered_assignment, lowered_update, lowered_access, lowered_head, lowered_return, lowered_statement, lowered_statements, result_slot}
 use Rattle.px_lower.specs.Scopes.{IsWithin}
 use Rattle.px_lower.proofs.Sequences.{grown, valued}
 
@@ -139,6 +142,12 @@ grows_update op (cell_place p field t site) e n =
     let m = (lowered_expression p n).next in
     le_trans (one_more m) (grown (lowered_expression e (suc m)) _ (suc m) (grows e (suc m)) (λ x. result_more op _)))
 
+pub grows_access : (p : Expression) (parts : Expressions) (field : FieldId) (t : TypeId) (site : Site) (n : ℕ) → n ≤ (lowered_access p parts field t site n).next
+grows_access p parts field t site n =
+    grown (lowered_expression p n) _ n (grows p n) (λ at.
+    let m = (lowered_expression p n).next in
+    grown (lowered_passed parts m) (λ _ n. reached at field t site n) m (grows_passed parts m) (λ u. one_more (lowered_passed parts m).next))
+
 pub grows_head : (c : Option Condition) (n : ℕ) → n ≤ (lowered_head c n).next
 grows_head None n = le_refl n
 grows_head (Some c) n = grown (lowered_condition c n) _ n (grows_test c n) (λ slot. le_refl _)
@@ -166,6 +175,7 @@ mutual
   grows_statement continue n = le_refl n
   grows_statement (return e) n = grows_return e n
   grows_statement (evaluate e) n = grows_passed (an_expression e no_expressions) n
+  grows_statement (access p parts field t site) n = grows_access p parts field t site n
 
   pub grows_statements : (ss : Statements) (n : ℕ) → n ≤ (lowered_statements ss n).next
   grows_statements no_statements n = le_refl n

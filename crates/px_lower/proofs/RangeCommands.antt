@@ -11,12 +11,12 @@ use Rattle.px_core.specs.Constants.{IsInRange, AreInRange, KeepsToRange, KeepToR
 use Rattle.px_syntax.specs.declared.typed_expression.Arithmetic.{Arithmetic}
 use Rattle.px_syntax.specs.declared.typed_expression.Relation.{Relation}
 use Rattle.px_syntax.specs.declared.typed_expression.Relation.TheVariants as relation
-use Rattle.px_syntax.specs.TypedTree.{Expression, constant, null, local, negated, arithmetic, truth, cell, allocate, get_char, call, stop, Expressions, no_expressions, an_expression, Arguments, no_arguments, an_argument, passed, erased, Condition, compare, word, pointer, both, either, opposite, Place, local_place, cell_place, Statement, block, declare, assign, update, run_call, free, input, choose, loop, break, continue, return, evaluate, Statements, no_statements, a_statement}
+use Rattle.px_syntax.specs.TypedTree.{Expression, constant, null, local, negated, arithmetic, truth, cell, allocate, get_char, call, stop, Expressions, no_expressions, an_expression, Arguments, no_arguments, an_argument, passed, erased, Condition, compare, word, pointer, both, either, opposite, Place, local_place, cell_place, Statement, block, declare, assign, update, run_call, free, input, choose, loop, break, continue, return, evaluate, access, Statements, no_statements, a_statement}
 use Rattle.px_syntax.specs.declared.typed_expression.Arithmetic.TheVariants.{Add, Subtract, Multiply, Divide, Remainder}
 use Rattle.px_meaning.specs.Values.{ValueType, Int, Pointer}
 use Rattle.px_meaning.specs.TypedProgram.{TypedProgram}
 use Rattle.px_meaning.specs.TreeTypes.{LocalTypes, IsOf, AreOf, ArePassed, IsCondition, IsPlaceOf, IsConditionIf, IsDeclared, IsReturned, IsStatement, AreStatements}
-use Rattle.px_lower.specs.Lowering.{Lowered, and_then, giving, doing, copy, copied, lowered_expression, lowered_arguments, lowered_passed, lowered_condition, comparison, lowered_declaration, lowered_assignment, lowered_update, lowered_head, lowered_return, lowered_statement, lowered_statements, applied, operation, result_slot}
+use Rattle.px_lower.specs.Lowering.{Lowered, and_then, giving, doing, copy, reached, copied, lowered_expression, lowered_arguments, lowered_passed, lowered_condition, comparison, lowered_declaration, lowered_assignment, lowered_update, lowered_head, lowered_return, lowered_statement, lowered_statements, applied, operation, result_slot}
 use Rattle.px_lower.proofs.Sequences.{Holds, holds_then, holds_alone}
 
 zero_fits : FitsSigned w32 (pos 0)
@@ -220,6 +220,10 @@ module _ (P : TypedProgram) (locals : LocalTypes) (result : Option ValueType) wh
     statement_kept inside continue n h = alone Any _ _ _ (tt, tt) tt
     statement_kept inside (return e) n h = return_kept result e n h
     statement_kept inside (evaluate e) n h = passed_kept (an_expression e no_expressions) n h
+    statement_kept inside (access p parts field b site) n h =
+        let m = (lowered_expression p n).next in
+        kept_then IsInRange Any (lowered_expression p n) _ (expression_kept (Pointer b) p n h.0) (λ at r.
+        kept_then Any Any (lowered_passed parts m) (λ _ n. reached at field b site n) (passed_kept parts m h.1) (λ u _. alone Any _ _ _ (r, (tt, tt)) tt))
 
     statements_kept : (inside : Bool) (ss : Statements) (n : ℕ) → AreStatements P locals result inside ss → Done (lowered_statements ss n)
     statements_kept inside no_statements n h = alone Any [] tt n tt tt

@@ -12,22 +12,23 @@ use Rattle.px_core.specs.declared.command.Operand.TheVariants.{Slot}
 use Rattle.px_core.specs.CommandTree.{CommandTree, assign, unset, load, read, store, no_commands, a_command, commands_of, leave}
 use Rattle.px_core.specs.CommandTree as command
 use Rattle.px_syntax.specs.declared.typed_expression.Arithmetic.{Arithmetic}
+use Rattle.px_syntax.specs.declared.typed_expression.CellLink.{CellLink}
 use Rattle.px_syntax.specs.declared.typed_expression.TypedExpression.{TypedExpression}
 use Rattle.px_syntax.specs.declared.typed_expression.Condition.{Condition}
 use Rattle.px_syntax.specs.declared.typed_statement.Place.{Place}
 use Rattle.px_syntax.specs.declared.typed_statement.Place.TheVariants as P
 use Rattle.px_syntax.specs.declared.typed_statement.TypedStatement.{TypedStatement}
-use Rattle.px_syntax.specs.TypedTree.{Expression, Arguments, Condition as Test, local_place, cell_place, Statement, statements_of}
+use Rattle.px_syntax.specs.TypedTree.{Expression, Expressions, Arguments, Condition as Test, local_place, cell_place, Statement, statements_of}
 use Rattle.px_syntax.specs.TypedTree as tree
 use Rattle.px_syntax.specs.TypedViews.{typed_expression, typed_condition, typed_place, typed_statement}
 use Rattle.px_lower.specs.declared.put.Given.{Given}
 use Rattle.px_lower.specs.declared.put.Decided.{Decided}
 use Rattle.px_lower.specs.declared.put.Halt.{Halt}
 use Rattle.px_lower.specs.declared.commands.Operands.{Operands}
-use Rattle.px_lower.specs.Lowering.{Lowered, and_then, doing, giving, loaded, copy, lowered_expression, lowered_arguments, lowered_condition, lowered_declaration, lowered_assignment, lowered_update, lowered_head, lowered_return, lowered_statement, lowered_statements, applied, operation, result_slot}
+use Rattle.px_lower.specs.Lowering.{Lowered, and_then, doing, giving, loaded, reached, copy, lowered_expression, lowered_arguments, lowered_passed, lowered_condition, lowered_declaration, lowered_assignment, lowered_update, lowered_access, lowered_head, lowered_return, lowered_statement, lowered_statements, applied, operation, result_slot}
 use Rattle.px_lower.specs.Chains.{Gives, GivesAll, Decides, Does, Ends}
 use Rattle.px_lower.proofs.Chains.{fails_first, goes_on, next_one}
-use Rattle.px_lower.proofs.Arms.{IsErr, begun, slot, nothing, itself, ends_with_value, goes_on_with_value, ends_with_outcome, goes_on_with_outcome, ends_with_arguments, goes_on_with_arguments}
+use Rattle.px_lower.proofs.Arms.{IsErr, begun, slot, nothing, itself, ends_with_value, goes_on_with_value, ends_with_outcome, goes_on_with_outcome, ends_with_arguments, goes_on_with_arguments, ends_there, goes_on_there}
 use Rattle.px_lower.proofs.ConditionArms.{list_ended}
 
 -- ---- declarations and returns
@@ -192,6 +193,32 @@ module _ (op : Arithmetic) (place : Place) (e : TypedExpression) (n : ℕ) (firs
             refl,
             sym (k ∙ m),
           ))
+
+-- ---- accesses
+
+module _ (p : Expression) (parts : Expressions) (l : CellLink) (n : ℕ) (first mid : List CommandTree) where
+  abbrev accessed : Lowered ⊤
+  accessed = lowered_access p parts l.field l.block l.site n
+
+  abbrev reaches_at : Operand → ⊤ → ℕ → Lowered ⊤
+  reaches_at at _ n = reached at l.field l.block l.site n
+
+  abbrev then_reaches : Operand → ℕ → Lowered ⊤
+  then_reaches at n = and_then (lowered_passed parts n) (reaches_at at)
+
+  pub accessed_pointer_fails : (h : Halt) (z : Result ℕ Halt) → IsErr z h → Gives (lowered_expression p n) first mid (Err h) → Does accessed first mid z
+  accessed_pointer_fails h z q g = ends_with_value p n first mid nothing itself accessed then_reaches refl h z q g
+
+  module _ (at : Given) (pointed : Gives (lowered_expression p n) first mid (Ok at)) (second : List CommandTree) where
+    pub accessed_parts_fail : (h : Halt) (z : Result ℕ Halt) → IsErr z h → Does (lowered_passed parts at.next) mid second (Err h) → Does accessed first second z
+    accessed_parts_fail h z q g =
+        goes_on_with_value p n first mid nothing itself accessed then_reaches refl at second z pointed
+        (ends_there (lowered_passed parts at.next) mid second nothing itself (then_reaches at.operand at.next) (reaches_at at.operand) refl h z q g)
+
+    pub accessed_returns : (m z : ℕ) (last : List CommandTree) → Does (lowered_passed parts at.next) mid second (Ok m) → last ≡ second ++ load m at.operand l.field l.block l.site ∷ unset m ∷ [] → z ≡ suc m → Does accessed first last (Ok z)
+    accessed_returns m z last g c d =
+        goes_on_with_value p n first mid nothing itself accessed then_reaches refl at last (Ok z) pointed
+        (goes_on_there (lowered_passed parts at.next) mid second nothing itself (then_reaches at.operand at.next) (reaches_at at.operand) refl m last (Ok z) g (c, refl, sym d))
 
 -- ---- statements one after another
 

@@ -2,11 +2,11 @@
 use Rattle.std.proofs.Common.{◌≡◌, ℕ, ◌<◌, Bool, true, false, IsTrue, List, [], ◌∷◌, ◌++◌, Option, None, Some, refl, subst, length-append}
 use Rattle.std.proofs.lemmas.Option.{slice_get_within}
 use Rattle.px_syntax.specs.declared.typed_expression.Relation.TheVariants as relation
-use Rattle.px_syntax.specs.TypedTree.{Expression, constant, null, local, negated, arithmetic, truth, cell, allocate, get_char, call, stop, Expressions, no_expressions, an_expression, Arguments, no_arguments, an_argument, passed, erased, Condition, compare, word, pointer, both, either, opposite, Place, local_place, cell_place, Statement, block, declare, assign, update, run_call, free, input, choose, loop, break, continue, return, evaluate, Statements, no_statements, a_statement}
+use Rattle.px_syntax.specs.TypedTree.{Expression, constant, null, local, negated, arithmetic, truth, cell, allocate, get_char, call, stop, Expressions, no_expressions, an_expression, Arguments, no_arguments, an_argument, passed, erased, Condition, compare, word, pointer, both, either, opposite, Place, local_place, cell_place, Statement, block, declare, assign, update, run_call, free, input, choose, loop, break, continue, return, evaluate, access, Statements, no_statements, a_statement}
 use Rattle.px_syntax.specs.ProgramTree.{ProcedureTree}
 use Rattle.px_meaning.specs.Values.{ValueType, Int, Pointer}
 use Rattle.px_meaning.specs.TypedProgram.{TypedProgram}
-use Rattle.px_meaning.specs.TreeTypes.{LocalTypes, IsOf, AreOf, ArePassed, IsCondition, IsPlaceOf, IsConditionIf, IsDeclared, IsReturned, IsStep, IsStatement, AreStatements, local_types, IsTypedProcedure, KeepsTyping}
+use Rattle.px_meaning.specs.TreeTypes.{LocalTypes, IsOf, AreOf, ArePassed, IsCondition, IsPlaceOf, IsConditionIf, IsDeclared, IsReturned, IsStep, AreSteps, IsStatement, AreStatements, local_types, IsTypedProcedure, KeepsTyping}
 use Rattle.px_lower.specs.LoweredProgram.{locals_of}
 use Rattle.px_lower.specs.Scopes.{IsWithin, AreWithin, AreArgumentsWithin, IsTestWithin, IsPlaceWithin, IsWithinIf, IsTestWithinIf, IsStatementWithin, AreStatementsWithin, KeepsScopes}
 
@@ -96,14 +96,14 @@ module _ (P : TypedProgram) (locals : LocalTypes) (m : ℕ) (below : (i : ℕ) (
     statement_within result inside leaves may continue h = may h
     statement_within result inside leaves may (return e) h = returned result e h
     statement_within result inside leaves may (evaluate e) h = (passed_within (an_expression e no_expressions) h).0
+    statement_within result inside leaves may (access p parts field b site) h = (within (Pointer b) p h.0, passed_within parts h.1)
 
     statements_within : (result : Option ValueType) (inside leaves : Bool) → (IsTrue inside → IsTrue leaves) → (ss : Statements) → AreStatements P locals result inside ss → AreStatementsWithin m leaves ss
     statements_within result inside leaves may no_statements h = tt
     statements_within result inside leaves may (a_statement s rest) h = (statement_within result inside leaves may s h.0, statements_within result inside leaves may rest h.1)
 
     step_within : (result : Option ValueType) (inside : Bool) (s : Statement) → IsStep P locals s → IsStatement P locals result inside s → IsStatementWithin m false s
-    step_within result inside (block no_statements) k h = tt
-    step_within result inside (block (a_statement s rest)) k h = absurd k
+    step_within result inside (block statements) k h = steps_within result inside statements k h
     step_within result inside (assign place e) k h = (place_within h.0 place h.1, within h.0 e h.2)
     step_within result inside (update op place e) k h = (place_within Int place h.0, within Int e h.1)
     step_within result inside (run_call proc es site) k h = each_within h.0 es h.1
@@ -116,6 +116,11 @@ module _ (P : TypedProgram) (locals : LocalTypes) (m : ℕ) (below : (i : ℕ) (
     step_within result inside continue k h = absurd k
     step_within result inside (return e) k h = absurd k
     step_within result inside (evaluate e) k h = (passed_within (an_expression e no_expressions) h).0
+    step_within result inside (access p parts field b site) k h = (within (Pointer b) p h.0, passed_within parts h.1)
+
+    steps_within : (result : Option ValueType) (inside : Bool) (ss : Statements) → AreSteps P locals ss → AreStatements P locals result inside ss → AreStatementsWithin m false ss
+    steps_within result inside no_statements k h = tt
+    steps_within result inside (a_statement s rest) k h = (step_within result inside s k.0 h.0, steps_within result inside rest k.1 h.1)
 
 -- no procedure breaks or continues outside of loops
 pub body_within : (P : TypedProgram) (p : ProcedureTree) (leaves : Bool) → IsTypedProcedure P p → IsStatementWithin (locals_of p) leaves p.body

@@ -187,6 +187,11 @@ lowered_update op (tree.cell_place p field block site) e n =
     and_then (lowered_expression p n) (λ at n. and_then (loaded at field block site n) (λ old n. and_then (lowered_expression e n) (λ x n.
     and_then (applied op old x n) (λ new n. doing (store at field block new site) n))))
 
+-- the pointer, the parts of what isn't written, and then the access
+abbrev pub lowered_access : Expression → Expressions → FieldId → TypeId → Site → ℕ → Lowered ⊤
+lowered_access p parts field block site n =
+    and_then (lowered_expression p n) (λ at n. and_then (lowered_passed parts n) (λ _ n. reached at field block site n))
+
 -- the head of a loop leaves it where the condition is false
 abbrev pub lowered_head : Option Condition → ℕ → Lowered ⊤
 lowered_head None n = ready tt n
@@ -218,6 +223,7 @@ abbrev mutual
   lowered_statement tree.continue n = doing continue n
   lowered_statement (tree.return e) n = lowered_return e n
   lowered_statement (tree.evaluate e) n = lowered_passed (tree.an_expression e tree.no_expressions) n
+  lowered_statement (tree.access p parts field block site) n = lowered_access p parts field block site n
 
   -- one after another
   pub lowered_statements : Statements → ℕ → Lowered ⊤

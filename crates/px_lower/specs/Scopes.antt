@@ -1,7 +1,7 @@
 -- What the law of lowering asks of a tree: its locals are those of the procedure, and the step of a loop
 -- neither breaks nor continues. Trees that keep the typing rules are such trees.
 use Rattle.std.specs.Prelude.{◌≡◌, ℕ, ◌<◌, Bool, true, false, IsTrue, Option, None, Some, ⊤}
-use Rattle.px_syntax.specs.TypedTree.{Expression, constant, null, local, negated, arithmetic, truth, cell, allocate, get_char, call, stop, Expressions, no_expressions, an_expression, Arguments, no_arguments, an_argument, passed, erased, Condition, compare, word, pointer, both, either, opposite, Place, local_place, cell_place, Statement, block, declare, assign, update, run_call, free, input, choose, loop, break, continue, return, evaluate, Statements, no_statements, a_statement}
+use Rattle.px_syntax.specs.TypedTree.{Expression, constant, null, local, negated, arithmetic, truth, cell, allocate, get_char, call, stop, Expressions, no_expressions, an_expression, Arguments, no_arguments, an_argument, passed, erased, Condition, compare, word, pointer, both, either, opposite, Place, local_place, cell_place, Statement, block, declare, assign, update, run_call, free, input, choose, loop, break, continue, return, evaluate, access, Statements, no_statements, a_statement}
 use Rattle.px_syntax.specs.ProgramTree.{ProcedureTree}
 use Rattle.px_meaning.specs.TypedProgram.{TypedProgram}
 use Rattle.px_lower.specs.LoweredProgram.{locals_of}
@@ -66,6 +66,7 @@ abbrev mutual
   IsStatementWithin m leaves continue = IsTrue leaves
   IsStatementWithin m leaves (return e) = IsWithinIf m e
   IsStatementWithin m leaves (evaluate e) = IsWithin m e
+  IsStatementWithin m leaves (access p parts field t site) = IsWithin m p × AreWithin m parts
 
   pub AreStatementsWithin : ℕ → Bool → Statements → Type 0
   AreStatementsWithin m leaves no_statements = ⊤

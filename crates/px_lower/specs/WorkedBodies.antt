@@ -257,6 +257,14 @@ pub record WorkedBodies : Type 0 where
   pub value_of_sum :
       Becomes (tree.evaluate (tree.arithmetic arithmetic.Add (tree.local 0 (at 3)) (star (tree.local 1 (at 5)) 4))) 2 4
       (read 0 (at 3) ∷ read 1 (at 5) ∷ load 2 (Slot 1) first ints (at 4) ∷ read 2 (at 4) ∷ assign 3 Add (Slot 0) (Slot 2) ∷ [])
+  -- `a->m = b;`, of a member that isn't known
+  pub unknown_member :
+      Becomes (tree.access (tree.local 0 (at 3)) (tree.an_expression (tree.local 1 (at 4)) tree.no_expressions) first pairs (at 2)) 2 3
+      (read 0 (at 3) ∷ load 2 (Slot 0) first pairs (at 2) ∷ unset 2 ∷ [])
+  -- `a->f->m = getchar();`
+  pub unknown_member_of_cell :
+      Becomes (tree.access (arrow (tree.local 0 (at 4)) 3) (tree.an_expression (tree.get_char (at 5)) tree.no_expressions) first pairs (at 2)) 1 4
+      (read 0 (at 4) ∷ load 1 (Slot 0) second pairs (at 3) ∷ read 1 (at 3) ∷ input 2 (at 5) ∷ load 3 (Slot 1) first pairs (at 2) ∷ unset 3 ∷ [])
   -- `outside;`
   pub stopped :
       Stops (tree.evaluate (outside tree.no_expressions 2)) 1 1
@@ -268,6 +276,10 @@ pub record WorkedBodies : Type 0 where
   -- `f(a, outside, b);`, whose second argument isn't passed
   pub stopped_in_erased :
       Stops (tree.run_call callee (tree.an_argument (tree.passed (tree.local 0 (at 3))) (tree.an_argument (tree.erased (tree.an_expression (outside tree.no_expressions 4) tree.no_expressions)) (tree.an_argument (tree.passed (tree.local 1 (at 5))) tree.no_arguments))) (at 2)) 2 2
+      (read 0 (at 3) ∷ stop 7 (at 4) ∷ [])
+  -- `a->m = outside;`
+  pub stopped_before_access :
+      Stops (tree.access (tree.local 0 (at 3)) (tree.an_expression (outside tree.no_expressions 4) tree.no_expressions) first pairs (at 2)) 1 1
       (read 0 (at 3) ∷ stop 7 (at 4) ∷ [])
   -- `a = b + outside; return;`
   pub nothing_behind :

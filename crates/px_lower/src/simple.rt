@@ -1,12 +1,13 @@
 ghost use Rattle.std.specs.Prelude.{map, option_map};
 ghost use Rattle.px_core.specs.CommandTree.{command_tree};
+ghost use Rattle.px_syntax.specs.TypedTree.{expressions_of};
 ghost use Rattle.px_syntax.specs.TypedViews.{typed_expression, typed_condition, typed_place};
-ghost use Rattle.px_lower.specs.Lowering.{lowered_declaration, lowered_assignment, lowered_update, lowered_head, lowered_return};
+ghost use Rattle.px_lower.specs.Lowering.{lowered_declaration, lowered_assignment, lowered_update, lowered_access, lowered_head, lowered_return};
 ghost use Rattle.px_lower.specs.Chains.{Does};
 
-use crate::commands::{calculate, cell_value, copy_of, local_value};
-use crate::expressions::{condition, expression};
-use crate::put::{Halt, put};
+use crate::commands::{calculate, cell_reached, cell_value, copy_of, local_value};
+use crate::expressions::{condition, effects, expression};
+use crate::put::{Given, Halt, put};
 use px_core::Command;
 use px_syntax::{Arithmetic, CellLink, Condition, Place, TypedExpression};
 use std::alloc::Global;
@@ -114,6 +115,23 @@ pub fn update(
             Ok(new.next)
         }
     }
+}
+
+#[tactic(auto, using(px_core::proofs::CommandEquations::trees))]
+pub fn access(
+    alloc: Global,
+    pointer: &TypedExpression,
+    parts: &[TypedExpression],
+    cell: CellLink,
+    next: u32,
+    out: &mut Vec<Command>,
+) -> Result<u32, Halt>
+    ensures { Does (lowered_access (typed_expression pointer.now) (expressions_of (map typed_expression parts.now)) cell.field cell.block cell.site next) (map command_tree out.old.items) (map command_tree out.new.items) result }
+{
+    let x = expression(alloc, pointer, next, out)?;
+    let behind = effects(alloc, parts, x.next, out)?;
+    let at = Given::new(x.operand, behind);
+    Ok(cell_reached(at, cell, out)?)
 }
 
 #[tactic(auto, using(px_core::proofs::CommandEquations::trees))]

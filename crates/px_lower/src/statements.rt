@@ -9,7 +9,7 @@ ghost use Rattle.px_lower.specs.Chains.{Does};
 use crate::commands::unused_call;
 use crate::expressions::{arguments, condition, effect, expression};
 use crate::put::{Halt, behind_list, give, put};
-use crate::simple::{assignment, declaration, give_back, head, update};
+use crate::simple::{access, assignment, declaration, give_back, head, update};
 use px_base::{ProcId, Site};
 use px_core::Command;
 use px_syntax::{Argument, TypedStatement};
@@ -135,6 +135,11 @@ pub fn statement(
         }
         TypedStatement::Return { value } => give_back(alloc, value, next, out),
         TypedStatement::Evaluate { value } => effect(alloc, value, next, out),
+        TypedStatement::Access {
+            pointer,
+            parts,
+            cell,
+        } => access(alloc, pointer, parts, *cell, next, out),
     }
 }
 

@@ -14,7 +14,7 @@ use Rattle.px_meaning.specs.Execution.{Locals, with_local}
 use Rattle.px_meaning.specs.Events.{Event, reads, makes}
 use Rattle.px_meaning.specs.Operations.{value_at, result_of, on_words}
 use Rattle.px_meaning.specs.Steps.{ProcedureCalls, marking, live_block, freed_block}
-use Rattle.px_syntax.specs.TypedTree.{Expression, constant, null, local, negated, arithmetic, truth, cell, allocate, get_char, call, stop, Expressions, no_expressions, an_expression, Arguments, no_arguments, an_argument, passed, erased, Condition, compare, word, pointer, both, either, opposite, Place, local_place, cell_place, Statement, block, declare, assign, update, run_call, free, input, choose, loop, break, continue, return, evaluate, Statements, no_statements, a_statement}
+use Rattle.px_syntax.specs.TypedTree.{Expression, constant, null, local, negated, arithmetic, truth, cell, allocate, get_char, call, stop, Expressions, no_expressions, an_expression, Arguments, no_arguments, an_argument, passed, erased, Condition, compare, word, pointer, both, either, opposite, Place, local_place, cell_place, Statement, block, declare, assign, update, run_call, free, input, choose, loop, break, continue, return, evaluate, access, Statements, no_statements, a_statement}
 use Rattle.px_syntax.specs.declared.typed_expression.Arithmetic.{Arithmetic}
 use Rattle.px_meaning.specs.TreeExecution.{gives, errs, Outcomes, with_value, by_outcome, yes, no, fault, Verdicts, with_verdict, Exit, falls, breaks, continues, returns, fails, Exits, with_fall, behind_body, Uses, Loads, calculation, Calculates, Reaches, Stores, Returns, CallsProcedure, Branches, Evaluates, EvaluatesAll, PassesAll, Tests, failing, Takes, Declares, Assigns, Updates, Frees, TestsIf, Loops, GivesBack, Executes, ExecutesAll}
 use Rattle.px_meaning.proofs.TreeBegins.{Begins, shorter}
@@ -304,6 +304,9 @@ module _ {E : Type 0} (seen : Event → E) (types : List BlockType) (C D : Proce
       runs_to n (return e) l a heap K L o oe h = gives_to e l a heap K L o oe h
       runs_to n (evaluate e) l a heap K L o oe h =
           passes_to (an_expression e no_expressions) l a heap (failing seen types C l K) (λ z. failing seen types D l (L z)) _ _ (oe l) (λ a h. o a falls l h) h
+      runs_to n (access e parts field b site) l a heap K L o oe h =
+          takes_to e l a heap K L _ _ oe (λ a x h. passes_to parts l a h (failing seen types C l K) (λ z. failing seen types D l (L z)) _ _ (oe l) (λ a h.
+          reaches_to x b site a h (failing seen types C l K) (λ z. failing seen types D l (L z)) (λ a h. K a falls l h) (λ z a h. L z a falls l h) (oe l) (λ a h. o a falls l h))) h
 
       all_runs_to : (n : ℕ) (ss : Statements) → ToAll (ExecutesAll seen types C bound n ss) (ExecutesAll seen types D bound n ss)
       all_runs_to n no_statements l a heap K L o oe h = o _ _ _ _ h

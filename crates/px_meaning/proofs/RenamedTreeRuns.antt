@@ -14,19 +14,19 @@ use Rattle.px_meaning.specs.Execution.{Locals, with_local}
 use Rattle.px_meaning.specs.Events.{Event, unnumbered}
 use Rattle.px_meaning.specs.Steps.{ProcedureCalls, marking, live_block, freed_block}
 use Rattle.px_meaning.specs.TypedProgram.{TypedProgram}
-use Rattle.px_syntax.specs.TypedTree.{Expression, get_char, no_expressions, an_expression, Condition, Place, local_place, cell_place, Statement, block, declare, assign, update, run_call, free, input, choose, loop, break, continue, return, evaluate, Statements, no_statements, a_statement}
+use Rattle.px_syntax.specs.TypedTree.{Expression, Expressions, get_char, no_expressions, an_expression, Condition, Place, local_place, cell_place, Statement, block, declare, assign, update, run_call, free, input, choose, loop, break, continue, return, evaluate, access, Statements, no_statements, a_statement}
 use Rattle.px_syntax.specs.ProgramTree.{ProcedureTree}
 use Rattle.px_syntax.specs.declared.typed_expression.Arithmetic.{Arithmetic}
-use Rattle.px_meaning.specs.TreeExecution.{Verdicts, Exit, falls, breaks, continues, returns, fails, Exits, with_fall, behind_body, Stores, failing, Takes, Declares, Assigns, Updates, Frees, TestsIf, Loops, GivesBack, Executes, ExecutesAll, Calculates, by_outcome}
+use Rattle.px_meaning.specs.TreeExecution.{Verdicts, Exit, falls, breaks, continues, returns, fails, Exits, with_fall, behind_body, Stores, failing, Takes, Declares, Assigns, Updates, Accesses, Frees, TestsIf, Loops, GivesBack, Executes, ExecutesAll, Calculates, Reaches, by_outcome}
 use Rattle.px_meaning.specs.TreeCalls.{first_locals, closes, TreeCallsWithin, SeenTreeCalls, TreeEvents}
 use Rattle.px_meaning.specs.CoreLaws.{EndsAlike}
 use Rattle.px_meaning.proofs.Renamed.{Renaming, SameValue, SameValues, Tied, Within, value_wider, same_put, tied_put}
 use Rattle.px_meaning.proofs.RenamedSteps.{SameEnding, AgreeBut}
 use Rattle.px_meaning.proofs.RenamedRuns.{itself, same_cells, tied_itself, alike}
 use Rattle.px_meaning.proofs.TypedHeaps.{written_cells}
-use Rattle.px_meaning.proofs.TreeBegins.{Begins, Opens, OpensExits, BeginsAll, shorter, outcome_opens, verdict_opens, fall_opens, body_opens, failing_opens, loads_begin, calculates_begin, stores_begin, frees_begin, call_begins, takes_begin, loops_begin, runs_begin, all_runs_begin}
+use Rattle.px_meaning.proofs.TreeBegins.{Begins, Opens, OpensExits, BeginsAll, shorter, outcome_opens, verdict_opens, fall_opens, body_opens, failing_opens, loads_begin, calculates_begin, reaches_begin, stores_begin, frees_begin, call_begins, takes_begin, passes_begin, loops_begin, runs_begin, all_runs_begin}
 use Rattle.px_meaning.proofs.TreeSeen.{tree_calls_to}
-use Rattle.px_meaning.proofs.RenamedTrees.{un, SameLocals, within_on, within_refl, locals_wider, locals_same_put, BothValue, BothErr, BothVerdict, outcome_both, verdict_both, pointer_both, uses_both, loads_both, calculates_both, call_both, eval_both, all_both, passes_both, test_both}
+use Rattle.px_meaning.proofs.RenamedTrees.{un, SameLocals, within_on, within_refl, locals_wider, locals_same_put, BothValue, BothErr, BothVerdict, outcome_both, verdict_both, pointer_both, uses_both, loads_both, calculates_both, reaches_both, call_both, eval_both, all_both, passes_both, test_both}
 
 abbrev SameExit : Renaming → Exit → Exit → Type 0
 SameExit R falls falls = ⊤
@@ -165,6 +165,22 @@ module _ (types : List BlockType) (C D : ProcedureCalls Event) (agree : AgreeBut
       stores_new calls u ls G o place x a y h =
           calculates_begin un types calls u op x y a h _ (outcome_opens u (failing un types calls ls G) _ (failing_opens un types calls u ls G o) (λ a v h. stores_begin un types calls u place field b site v ls a h G o))
 
+  accesses_both : (e : Expression) (parts : Expressions) (b : TypeId) (site : Site) (R : Renaming) (l m : Locals) (a : List Event) (h i : HeapMap) (K L : Exits Event) → SameLocals R l m → Tied R h i → OpensExits s K → OpensExits t L → BothExits Z R K L →
+      Accesses un types C e parts b site l a h K → Accesses un types D e parts b site m a i L → Z
+  accesses_both e parts b site R l m a h i K L same tied o o' on k k' =
+      takes_both e R l m a h i K L _ _ same tied o o' on
+      (λ a x h. passes_begin un types C s parts l a h (failing un types C l K) _ (failing_opens un types C s l K o) (reached C s l K o x))
+      (λ a x h. passes_begin un types D t parts m a h (failing un types D m L) _ (failing_opens un types D t m L o') (reached D t m L o' x))
+      (λ S w a x y h i xy tied. passes_both types C D agree s t p q eq Z parts S l m a h i (failing un types C l K) (failing un types D m L) _ _ (locals_wider R S w l m same) tied
+      (failing_opens un types C s l K o) (failing_opens un types D t m L o') (reached C s l K o x) (reached D t m L o' y) (failing_both S l m K L (locals_wider R S w l m same) (exits_within Z R S w K L on))
+      (λ T w' a h i tied. let far = within_on w w' in
+      reaches_both types C D agree s t p q eq Z T x y b site a h i (failing un types C l K) (failing un types D m L) (λ a h. K a falls l h) (λ a h. L a falls m h) (value_wider S T w' x y xy) tied
+      (failing_both T l m K L (locals_wider R T far l m same) (exits_within Z R T far K L on))
+      (λ U w'' a h i tied. on U (within_on far w'') a falls falls l m h i tt (locals_wider R U (within_on far w'') l m same) tied))) k k'
+    where
+      reached : (calls : ProcedureCalls Event) (u : List Event) (now : Locals) (G : Exits Event) → OpensExits u G → (x : Value) (a : List Event) (h : HeapMap) → Reaches un types calls x b site a h (failing un types calls now G) (λ a h. G a falls now h) → Begins u a
+      reached calls u now G o x a h = reaches_begin un types calls u x b site a h (failing un types calls now G) (λ a h. G a falls now h) (failing_opens un types calls u now G o) (λ a h. o a falls now h)
+
   tests_if_both : (c : Option Condition) (R : Renaming) (l m : Locals) (a : List Event) (h i : HeapMap) (K L : Verdicts Event) → SameLocals R l m → Tied R h i → Opens s K → Opens t L → BothVerdict Z R K L →
       TestsIf un types C c l a h K → TestsIf un types D c m a i L → Z
   tests_if_both None R l m a h i K L same tied o o' on k k' = on R (within_refl R) _ _ _ _ _ tt tied k k'
@@ -252,6 +268,7 @@ module _ (types : List BlockType) (C D : ProcedureCalls Event) (agree : AgreeBut
     runs_both bound bound' n n' (evaluate e) R l m a h i K L same tied o o' on k k' =
         passes_both types C D agree s t p q eq Z (an_expression e no_expressions) R l m a h i (failing un types C l K) (failing un types D m L) _ _ same tied (failing_opens un types C s l K o) (failing_opens un types D t m L o')
         (λ a h. o a falls l h) (λ a h. o' a falls m h) (failing_both R l m K L same on) (λ S w a h i tied. on S w a falls falls l m h i tt (locals_wider R S w l m same) tied) k k'
+    runs_both bound bound' n n' (access e parts field b site) R l m a h i K L same tied o o' on k k' = accesses_both e parts b site R l m a h i K L same tied o o' on k k'
 
     all_runs_both : (bound bound' : Option ℕ) (n n' : ℕ) (xs : Statements) → BothAll (ExecutesAll un types C bound n xs) (ExecutesAll un types D bound' n' xs)
     all_runs_both bound bound' n n' no_statements R l m a h i K L same tied o o' on k k' = on R (within_refl R) _ falls falls _ _ _ _ tt same tied k k'

@@ -207,7 +207,7 @@ module _ (types : List BlockType) (C D : ProcedureCalls Event) (agree : AgreeBut
       tied same (on R (within_refl R) _ _ _ _ _ (refl, refl) tied) (on R (within_refl R) _ _ _ _ _ (refl, refl) tied)
       (λ m n vs ws r cells. uses_both R (value_at vs field.0) (value_at ws field.0) site (a ++ marking un Access site) h i K L (same_at R vs ws field.0 cells) tied on) k k'
 
-  reaches_both : (R : Renaming) (v w : Value) (b : TypeId) (site : Site) (a : List Event) (h i : HeapMap) (err err' : List Event → Halt → Site → HeapMap → Type 0) (f f' : List Event → HeapMap → Type 0) → SameValue R v w → Tied R h i → BothErr Z R err err' → BothOn Z R f f' →
+  pub reaches_both : (R : Renaming) (v w : Value) (b : TypeId) (site : Site) (a : List Event) (h i : HeapMap) (err err' : List Event → Halt → Site → HeapMap → Type 0) (f f' : List Event → HeapMap → Type 0) → SameValue R v w → Tied R h i → BothErr Z R err err' → BothOn Z R f f' →
       Reaches un types C v b site a h err f → Reaches un types D w b site a i err' f' → Z
   reaches_both R v w b site a h i err err' f f' same tied be bf k k' =
       pointer_both Z R h i b.0 v w (err (a ++ marking un Access site) (error NullDereference) site h) (err' (a ++ marking un Access site) (error NullDereference) site i)

@@ -13,7 +13,7 @@ use Rattle.px_meaning.specs.Execution.{Locals, with_local}
 use Rattle.px_meaning.specs.Events.{Event}
 use Rattle.px_meaning.specs.Operations.{value_at, result_of, on_words}
 use Rattle.px_meaning.specs.Steps.{ProcedureCalls, marking, live_block, freed_block}
-use Rattle.px_syntax.specs.TypedTree.{Expression, constant, null, local, negated, arithmetic, truth, cell, allocate, get_char, call, stop, Expressions, no_expressions, an_expression, Arguments, no_arguments, an_argument, passed, erased, Condition, compare, word, pointer, both, either, opposite, Place, local_place, cell_place, Statement, block, declare, assign, update, run_call, free, input, choose, loop, break, continue, return, evaluate, Statements, no_statements, a_statement}
+use Rattle.px_syntax.specs.TypedTree.{Expression, constant, null, local, negated, arithmetic, truth, cell, allocate, get_char, call, stop, Expressions, no_expressions, an_expression, Arguments, no_arguments, an_argument, passed, erased, Condition, compare, word, pointer, both, either, opposite, Place, local_place, cell_place, Statement, block, declare, assign, update, run_call, free, input, choose, loop, break, continue, return, evaluate, access, Statements, no_statements, a_statement}
 use Rattle.px_syntax.specs.declared.typed_expression.Arithmetic.{Arithmetic}
 use Rattle.px_meaning.specs.TreeExecution.{gives, errs, Outcomes, with_value, by_outcome, yes, no, fault, Verdicts, with_verdict, Exit, falls, breaks, continues, returns, fails, Exits, with_fall, behind_body, Uses, Loads, calculation, Calculates, Reaches, Stores, Returns, CallsProcedure, Branches, Evaluates, EvaluatesAll, PassesAll, Tests, failing, Takes, Declares, Assigns, Updates, Frees, TestsIf, Loops, GivesBack, Executes, ExecutesAll}
 use Rattle.px_meaning.proofs.Taken.{some_to, pointer_to, written_to}
@@ -226,6 +226,9 @@ module _ {E : Type 0} (seen : Event → E) (types : List BlockType) (C : Procedu
     runs_begin bound n (return e) l so_far heap K o h = gives_begin e l so_far heap K o h
     runs_begin bound n (evaluate e) l so_far heap K o h =
         passes_begin (an_expression e no_expressions) l so_far heap (failing seen types C l K) _ (failing_opens l K o) (λ a h. o a falls l h) h
+    runs_begin bound n (access e parts field b site) l so_far heap K o h =
+        takes_begin e l so_far heap K _ o (λ a x h. passes_begin parts l a h (failing seen types C l K) _ (failing_opens l K o) (λ a h.
+        reaches_begin x b site a h (failing seen types C l K) (λ a h. K a falls l h) (failing_opens l K o) (λ a h. o a falls l h))) h
 
     pub all_runs_begin : (bound : Option ℕ) (n : ℕ) (ss : Statements) (l : Locals) (so_far : List E) (heap : HeapMap) (K : Exits E) → OpensExits t K → ExecutesAll seen types C bound n ss l so_far heap K → Begins t so_far
     all_runs_begin bound n no_statements l so_far heap K o h = o _ _ _ _ h

@@ -12,13 +12,13 @@ use Rattle.px_meaning.specs.Execution.{Locals, with_local}
 use Rattle.px_meaning.specs.Events.{Event}
 use Rattle.px_meaning.specs.Steps.{ProcedureCalls, marking, live_block, freed_block}
 use Rattle.px_meaning.specs.TypedProgram.{TypedProgram}
-use Rattle.px_syntax.specs.TypedTree.{Expression, get_char, no_expressions, an_expression, Condition, Place, local_place, cell_place, Statement, block, declare, assign, update, run_call, free, input, choose, loop, break, continue, return, evaluate, Statements, no_statements, a_statement}
+use Rattle.px_syntax.specs.TypedTree.{Expression, Expressions, get_char, no_expressions, an_expression, Condition, Place, local_place, cell_place, Statement, block, declare, assign, update, run_call, free, input, choose, loop, break, continue, return, evaluate, access, Statements, no_statements, a_statement}
 use Rattle.px_syntax.specs.declared.typed_expression.Arithmetic.{Arithmetic}
-use Rattle.px_meaning.specs.TreeExecution.{Verdicts, Exit, falls, breaks, continues, returns, fails, Exits, with_fall, behind_body, Stores, failing, Takes, Declares, Assigns, Updates, Frees, TestsIf, Loops, GivesBack, Executes, ExecutesAll, Calculates, by_outcome}
+use Rattle.px_meaning.specs.TreeExecution.{Verdicts, Exit, falls, breaks, continues, returns, fails, Exits, with_fall, behind_body, Stores, failing, Takes, Declares, Assigns, Updates, Accesses, Frees, TestsIf, Loops, GivesBack, Executes, ExecutesAll, Calculates, Reaches, by_outcome}
 use Rattle.px_meaning.specs.TreeCalls.{first_locals, closes, TreeCallsWithin, TreeEvents}
 use Rattle.px_meaning.proofs.Pairs.{Agree}
-use Rattle.px_meaning.proofs.TreeBegins.{Begins, Opens, OpensExits, BeginsAll, shorter, outcome_opens, verdict_opens, fall_opens, body_opens, failing_opens, loads_begin, calculates_begin, stores_begin, frees_begin, call_begins, takes_begin, loops_begin, runs_begin, all_runs_begin}
-use Rattle.px_meaning.proofs.TreePairs.{see, Both, outcome_both, verdict_both, some_two, pointer_two, uses_pair, loads_pair, calculates_pair, call_pair, eval_pair, all_pair, passes_pair, test_pair}
+use Rattle.px_meaning.proofs.TreeBegins.{Begins, Opens, OpensExits, BeginsAll, shorter, outcome_opens, verdict_opens, fall_opens, body_opens, failing_opens, loads_begin, calculates_begin, reaches_begin, stores_begin, frees_begin, call_begins, takes_begin, passes_begin, loops_begin, runs_begin, all_runs_begin}
+use Rattle.px_meaning.proofs.TreePairs.{see, Both, outcome_both, verdict_both, some_two, pointer_two, uses_pair, loads_pair, calculates_pair, reaches_pair, call_pair, eval_pair, all_pair, passes_pair, test_pair}
 
 abbrev BothExits : Type 0 → Exits Event → Exits Event → Type 0
 BothExits R K L = (a : List Event) (x : Exit) (l : Locals) (h : HeapMap) → K a x l h → L a x l h → R
@@ -116,6 +116,19 @@ module _ (types : List BlockType) (C D : ProcedureCalls Event) (agree : Agree C 
       stores_new calls u G o place x a y h =
           calculates_begin see types calls u op x y a h _ (outcome_opens u (failing see types calls l G) _ (failing_opens see types calls u l G o) (λ a v h. stores_begin see types calls u place field b site v l a h G o))
 
+  accesses_pair : (e : Expression) (parts : Expressions) (b : TypeId) (site : Site) (l : Locals) (so_far : List Event) (heap : HeapMap) (K L : Exits Event) → OpensExits s K → OpensExits t L → BothExits R K L →
+      Accesses see types C e parts b site l so_far heap K → Accesses see types D e parts b site l so_far heap L → R
+  accesses_pair e parts b site l so_far heap K L o o' on h h' =
+      takes_pair e l so_far heap K L _ _ o o' on
+      (λ a x h. passes_begin see types C s parts l a h (failing see types C l K) _ (failing_opens see types C s l K o) (reached C s K o x))
+      (λ a x h. passes_begin see types D t parts l a h (failing see types D l L) _ (failing_opens see types D t l L o') (reached D t L o' x))
+      (λ a x h. passes_pair types C D agree s t p q eq R parts l a h (failing see types C l K) (failing see types D l L) _ _ (failing_opens see types C s l K o) (failing_opens see types D t l L o')
+      (reached C s K o x) (reached D t L o' x) (λ a kind at h. on a (fails kind at) l h)
+      (λ a h. reaches_pair types C D agree s t p q eq R x b site a h (failing see types C l K) (failing see types D l L) (λ a h. K a falls l h) (λ a h. L a falls l h) (λ a kind at h. on a (fails kind at) l h) (λ a h. on a falls l h))) h h'
+    where
+      reached : (calls : ProcedureCalls Event) (u : List Event) (G : Exits Event) → OpensExits u G → (x : Value) (a : List Event) (h : HeapMap) → Reaches see types calls x b site a h (failing see types calls l G) (λ a h. G a falls l h) → Begins u a
+      reached calls u G o x a h = reaches_begin see types calls u x b site a h (failing see types calls l G) (λ a h. G a falls l h) (failing_opens see types calls u l G o) (λ a h. o a falls l h)
+
   tests_if_pair : (c : Option Condition) (l : Locals) (so_far : List Event) (heap : HeapMap) (K L : Verdicts Event) → Opens s K → Opens t L → Both R K L →
       TestsIf see types C c l so_far heap K → TestsIf see types D c l so_far heap L → R
   tests_if_pair None l so_far heap K L o o' on h h' = on _ _ _ h h'
@@ -198,6 +211,7 @@ module _ (types : List BlockType) (C D : ProcedureCalls Event) (agree : Agree C 
     runs_pair bound bound' n m (evaluate e) l so_far heap K L o o' on h h' =
         passes_pair types C D agree s t p q eq R (an_expression e no_expressions) l so_far heap (failing see types C l K) (failing see types D l L) _ _ (failing_opens see types C s l K o) (failing_opens see types D t l L o')
         (λ a h. o a falls l h) (λ a h. o' a falls l h) (λ a kind at h. on a (fails kind at) l h) (λ a h. on a falls l h) h h'
+    runs_pair bound bound' n m (access e parts field b site) l so_far heap K L o o' on h h' = accesses_pair e parts b site l so_far heap K L o o' on h h'
 
     all_runs_pair : (bound bound' : Option ℕ) (n m : ℕ) (ss : Statements) → PairsAll (ExecutesAll see types C bound n ss) (ExecutesAll see types D bound' m ss)
     all_runs_pair bound bound' n m no_statements l so_far heap K L o o' on h h' = on _ _ _ _ h h'

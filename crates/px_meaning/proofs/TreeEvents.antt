@@ -18,7 +18,7 @@ use Rattle.px_meaning.specs.Events.{Event, reads, makes, mark_of}
 use Rattle.px_meaning.specs.Operations.{value_at, result_of, on_words}
 use Rattle.px_meaning.specs.Steps.{ProcedureCalls, marking, by_state, by_pointer, by_written, live_block, freed_block}
 use Rattle.px_meaning.specs.TypedProgram.{TypedProgram}
-use Rattle.px_syntax.specs.TypedTree.{Expression, constant, null, local, negated, arithmetic, truth, cell, allocate, get_char, call, stop, Expressions, no_expressions, an_expression, Arguments, no_arguments, an_argument, passed, erased, Condition, compare, word, pointer, both, either, opposite, Place, local_place, cell_place, Statement, block, declare, assign, update, run_call, free, input, choose, loop, break, continue, return, evaluate, Statements, no_statements, a_statement}
+use Rattle.px_syntax.specs.TypedTree.{Expression, constant, null, local, negated, arithmetic, truth, cell, allocate, get_char, call, stop, Expressions, no_expressions, an_expression, Arguments, no_arguments, an_argument, passed, erased, Condition, compare, word, pointer, both, either, opposite, Place, local_place, cell_place, Statement, block, declare, assign, update, run_call, free, input, choose, loop, break, continue, return, evaluate, access, Statements, no_statements, a_statement}
 use Rattle.px_syntax.specs.declared.typed_expression.Arithmetic.{Arithmetic}
 use Rattle.px_meaning.specs.TreeExecution.{gives, errs, Outcomes, with_value, by_outcome, yes, no, fault, Verdicts, with_verdict, Exit, falls, breaks, continues, returns, fails, Exits, with_fall, behind_body, Uses, Loads, calculation, Calculates, Reaches, Stores, Returns, CallsProcedure, Branches, Evaluates, EvaluatesAll, PassesAll, Tests, failing, Takes, Declares, Assigns, Updates, Frees, TestsIf, Loops, GivesBack, Executes, ExecutesAll}
 use Rattle.px_meaning.specs.TreeCalls.{first_locals, closes, TreeCallsWithin, SeenTreeCalls}
@@ -285,6 +285,10 @@ module _ (X : Type 0) where
         runs_to n (return e) l a b heap K L s o h = gives_to e l a b heap K L s o h
         runs_to n (evaluate e) l a b heap K L s o h =
             passes_to (an_expression e no_expressions) l a b heap (failing mark_of types C l K) (λ z. failing see types D l (L z)) _ _ s (λ a b kind site h s. o a b (fails kind site) l h s) (λ a b h s. o a b falls l h s) h
+        runs_to n (access e parts field t site) l a b heap K L s o h =
+            takes_to e l a b heap K L _ _ s o (λ a b x h s.
+            passes_to parts l a b h (failing mark_of types C l K) (λ z. failing see types D l (L z)) _ _ s (λ a b kind site h s. o a b (fails kind site) l h s) (λ a b h s.
+            reaches_to x t site a b h (failing mark_of types C l K) (λ z. failing see types D l (L z)) (λ a h. K a falls l h) (λ z b h. L z b falls l h) s (λ a b kind site h s. o a b (fails kind site) l h s) (λ a b h s. o a b falls l h s))) h
 
         all_runs_to : (n : ℕ) (ss : Statements) → ToAll (ExecutesAll mark_of types C bound n ss) (ExecutesAll see types D bound n ss)
         all_runs_to n no_statements l a b heap K L s o h = o _ _ _ _ _ s h

@@ -14,7 +14,7 @@ use Rattle.px_meaning.specs.Events.{Event}
 use Rattle.px_meaning.specs.Operations.{value_at, result_of, on_words}
 use Rattle.px_meaning.specs.Steps.{ProcedureCalls, marking, new_block, live_block, freed_block}
 use Rattle.px_meaning.specs.TypedProgram.{TypedProgram}
-use Rattle.px_syntax.specs.TypedTree.{Expression, constant, null, local, negated, arithmetic, truth, cell, allocate, get_char, call, stop, Expressions, no_expressions, an_expression, Arguments, no_arguments, an_argument, passed, erased, Condition, compare, word, pointer, both, either, opposite, Place, local_place, cell_place, Statement, block, declare, assign, update, run_call, free, input, choose, loop, break, continue, return, evaluate, Statements, no_statements, a_statement}
+use Rattle.px_syntax.specs.TypedTree.{Expression, constant, null, local, negated, arithmetic, truth, cell, allocate, get_char, call, stop, Expressions, no_expressions, an_expression, Arguments, no_arguments, an_argument, passed, erased, Condition, compare, word, pointer, both, either, opposite, Place, local_place, cell_place, Statement, block, declare, assign, update, run_call, free, input, choose, loop, break, continue, return, evaluate, access, Statements, no_statements, a_statement}
 use Rattle.px_syntax.specs.declared.typed_expression.Arithmetic.{Arithmetic}
 use Rattle.px_meaning.specs.TreeExecution.{gives, errs, Outcomes, with_value, by_outcome, yes, no, fault, Verdicts, with_verdict, Exit, falls, breaks, continues, returns, fails, Exits, with_fall, behind_body, Uses, Loads, calculation, Calculates, Reaches, Stores, Returns, CallsProcedure, Branches, Evaluates, EvaluatesAll, PassesAll, Tests, failing, Takes, Declares, Assigns, Updates, Frees, TestsIf, Loops, GivesBack, Executes, ExecutesAll}
 use Rattle.px_meaning.specs.TreeCalls.{first_locals, closes, TreeCallsWithin, SeenTreeCalls}
@@ -235,6 +235,10 @@ module _ {E : Type 0} (seen : Event → E) (types : List BlockType) (calls : Pro
     runs_lead bound n (return e) l a heap K o h = gives_lead e l a heap K o h
     runs_lead bound n (evaluate e) l a heap K o h =
         passes_lead (an_expression e no_expressions) l a heap (failing seen types calls l K) _ (λ a kind site h w. o a (fails kind site) l h w) (λ a h w. o a falls l h w) h
+    runs_lead bound n (access e parts field b site) l a heap K o h =
+        takes_lead e l a heap K _ o (λ a x h w. passes_lead parts l a h (failing seen types calls l K) _ (λ a kind site i g. o a (fails kind site) l i (grows_trans w g)) (λ a i g.
+        let grew = grows_trans w g in
+        reaches_lead x b site a i (failing seen types calls l K) (λ a h. K a falls l h) (λ a kind site j r. o a (fails kind site) l j (grows_trans grew r)) (λ a j r. o a falls l j (grows_trans grew r)))) h
 
     all_runs_lead : (bound : Option ℕ) (n : ℕ) (ss : Statements) → LeadsAll (ExecutesAll seen types calls bound n ss)
     all_runs_lead bound n no_statements l a heap K o h = o _ _ _ _ (grows_refl heap) h

@@ -104,7 +104,7 @@ module _ (types : List BlockType) (C D : ProcedureCalls Event) (agree : Agree C 
       (λ n cells. Uses see types C (value_at cells field.0) site (so_far ++ marking see Access site) heap K) (λ n cells. Uses see types D (value_at cells field.0) site (so_far ++ marking see Access site) heap L)
       (on _ _ _) (on _ _ _) (λ n cells. uses_pair (value_at cells field.0) site (so_far ++ marking see Access site) heap K L on) h h'
 
-  reaches_pair : (v : Value) (b : TypeId) (site : Site) (so_far : List Event) (heap : HeapMap) (err err' : List Event → Halt → Site → HeapMap → Type 0) (f f' : List Event → HeapMap → Type 0) → BothErr R err err' → BothOn R f f' →
+  pub reaches_pair : (v : Value) (b : TypeId) (site : Site) (so_far : List Event) (heap : HeapMap) (err err' : List Event → Halt → Site → HeapMap → Type 0) (f f' : List Event → HeapMap → Type 0) → BothErr R err err' → BothOn R f f' →
       Reaches see types C v b site so_far heap err f → Reaches see types D v b site so_far heap err' f' → R
   reaches_pair v b site so_far heap err err' f f' be bf h h' =
       pointer_two R heap b.0 v (err (so_far ++ marking see Access site) (error NullDereference) site heap) (err' (so_far ++ marking see Access site) (error NullDereference) site heap)

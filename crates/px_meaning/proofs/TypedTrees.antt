@@ -16,7 +16,7 @@ use Rattle.px_syntax.specs.declared.typed_expression.Arithmetic.{Arithmetic}
 use Rattle.px_syntax.specs.declared.typed_expression.Arithmetic.TheVariants.{Add, Subtract, Multiply, Divide, Remainder}
 use Rattle.px_syntax.specs.declared.typed_expression.Relation.{Relation}
 use Rattle.px_syntax.specs.declared.typed_expression.Relation.TheVariants as relation
-use Rattle.px_syntax.specs.TypedTree.{Expression, constant, null, local, negated, arithmetic, truth, cell, allocate, get_char, call, stop, Expressions, no_expressions, an_expression, Arguments, no_arguments, an_argument, passed, erased, Condition, compare, word, pointer, both, either, opposite, Place, local_place, cell_place, Statement, block, declare, assign, update, run_call, free, input, choose, loop, break, continue, return, evaluate, Statements, no_statements, a_statement}
+use Rattle.px_syntax.specs.TypedTree.{Expression, constant, null, local, negated, arithmetic, truth, cell, allocate, get_char, call, stop, Expressions, no_expressions, an_expression, Arguments, no_arguments, an_argument, passed, erased, Condition, compare, word, pointer, both, either, opposite, Place, local_place, cell_place, Statement, block, declare, assign, update, run_call, free, input, choose, loop, break, continue, return, evaluate, access, Statements, no_statements, a_statement}
 use Rattle.px_syntax.specs.ProgramTree.{ProcedureTree}
 use Rattle.px_meaning.specs.Values.{TypeId, ValueType, Int, Pointer, BlockType, One, Fields, Opaque, Value, Word, Null, Block, Unwritten}
 use Rattle.px_meaning.specs.Heaps.{HeapMap, HeapBlock, Live, Freed, with_block, IsWritten, AreWritten, IsCell, IsWellTyped}
@@ -437,6 +437,12 @@ module _ {E : Type 0} (seen : Event → E) (P : TypedProgram) (calls : Procedure
     runs_typed bound n inside (return e) p l a heap K y s o h = gives_typed result refl e l a heap K p y s o h
     runs_typed bound n inside (evaluate e) p l a heap K y s o h =
         passes_typed (an_expression e no_expressions) l a heap (failing seen P.types calls l K) _ p y s (failing_leads heap l K s o) (λ a h w y. o a falls l h w y (locals_grow w locals l s) tt) h
+    runs_typed bound n inside (access e parts field b site) p l a heap K y s o h =
+        takes_typed e (Pointer b) l a heap K _ p.0 y s o (λ a x h w y q.
+        passes_typed parts l a h (failing seen P.types calls l K) _ p.1 y (locals_grow w locals l s) (failing_leads h l K (locals_grow w locals l s) (exits_grown heap h K w o)) (λ a i g y.
+        let grew = grows_trans w g in
+        reaches_typed x b site a i (failing seen P.types calls l K) (λ a h. K a falls l h) y (failing_leads i l K (locals_grow grew locals l s) (exits_grown heap i K grew o))
+        (λ a j r y. o a falls l j (grows_trans grew r) y (locals_grow (grows_trans grew r) locals l s) tt))) h
 
     all_runs_typed : (bound : Option ℕ) (n : ℕ) (inside : Bool) (xs : Statements) → AreStatements P locals result inside xs → TypedAll (ExecutesAll seen P.types calls bound n xs)
     all_runs_typed bound n inside no_statements p l a heap K y s o h = o _ _ _ _ (grows_refl heap) y s tt h

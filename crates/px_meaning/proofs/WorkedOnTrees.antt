@@ -2,7 +2,7 @@
 use Rattle.std.proofs.Common.{[], ◌∷◌, ◌++◌, refl, inl, inr, pos, arith}
 use Rattle.px_base.specs.declared.trace.MarkKind.TheVariants.{Got, Else, Input, Freed, Access, Enter, Leave}
 use Rattle.px_base.specs.declared.trace.Kind.TheVariants.{UseAfterFree, DoubleFree}
-use Rattle.px_meaning.specs.Values.{One, Int, Word}
+use Rattle.px_meaning.specs.Values.{One, Fields, Int, Word}
 use Rattle.px_meaning.specs.Heaps.{HeapMap}
 use Rattle.px_meaning.specs.Calls.{error, Returned, Failed}
 use Rattle.px_meaning.specs.Manifest.{Bug, IsManifest}
@@ -10,7 +10,7 @@ use Rattle.px_meaning.specs.Events.{mark}
 use Rattle.px_meaning.specs.TypedProgram.{TypedProgram}
 use Rattle.px_meaning.specs.TreeCalls.{TreeCalls, BoundedTreeCalls}
 use Rattle.px_meaning.specs.WorkedBodies.{at, empty_heap, unchecked_bug, wraps_bug, reads_input_bug, unset_local_bug, until_freed, two_turns}
-use Rattle.px_meaning.specs.WorkedTrees.{unchecked_tree, freed_too_early_tree, freed_by_callee_program, wraps_tree, reads_input_tree, freed_in_loop_tree, unset_local_tree, erased_access_program, erased_access_bug, around_passed_program}
+use Rattle.px_meaning.specs.WorkedTrees.{unchecked_tree, freed_too_early_tree, freed_by_callee_program, wraps_tree, reads_input_tree, freed_in_loop_tree, unset_local_tree, erased_access_program, erased_access_bug, around_passed_program, member_of_null_tree, member_of_null_bug, member_of_unset_tree, member_of_unset_bug, member_kept_tree}
 use Rattle.px_meaning.proofs.Worked.{below, ten_low, ten_high, less_0, less_1}
 
 without : (P : TypedProgram) (bug : Bug) → ((heap : HeapMap) → (heap' : HeapMap) × TreeCalls P 0 [] heap bug.trace (Failed (error bug.kind) bug.site) heap') →
@@ -92,3 +92,15 @@ around_passed_returns = (
     (pos 10, ten_low, ten_high, (pos 10, ten_low, ten_high, ([], Returned (Word (pos 7)), _, (refl, refl, refl), (refl, refl, refl)))),
   ),
 )
+
+pub member_of_null_fails : IsManifest (TreeCalls member_of_null_tree 0) (Fields (Int ∷ []) ∷ []) [] member_of_null_bug
+member_of_null_fails [] heap state = (heap, (9, (pos 10, ten_low, ten_high, (refl, refl, refl))))
+member_of_null_fails (a ∷ rest) heap state = absurd state.written
+
+pub member_of_unset_fails : IsManifest (TreeCalls member_of_unset_tree 0) (Fields (Int ∷ []) ∷ []) [] member_of_unset_bug
+member_of_unset_fails [] heap state = (heap, (9, (refl, refl, refl)))
+member_of_unset_fails (a ∷ rest) heap state = absurd state.written
+
+pub member_kept_returns : (end : HeapMap) × TreeCalls member_kept_tree 0 [] empty_heap
+    (mark Got (at 2 29) ∷ mark Access (at 2 56) ∷ mark Input (at 2 72) ∷ mark Access (at 2 66) ∷ mark Access (at 2 91) ∷ []) (Returned (Word (pos 7))) end
+member_kept_returns = (_, (9, inr (0, refl, (refl, (pos 10, ten_low, ten_high, (refl, (refl, (refl, refl, refl))))))))

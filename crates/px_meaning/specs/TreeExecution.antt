@@ -21,7 +21,7 @@ use Rattle.px_syntax.specs.declared.typed_expression.Arithmetic.{Arithmetic}
 use Rattle.px_syntax.specs.declared.typed_expression.Arithmetic.TheVariants.{Add, Subtract, Multiply, Divide, Remainder}
 use Rattle.px_syntax.specs.declared.typed_expression.Relation.{Relation}
 use Rattle.px_syntax.specs.declared.typed_expression.Relation.TheVariants as relation
-use Rattle.px_syntax.specs.TypedTree.{Expression, constant, null, local, negated, arithmetic, truth, cell, allocate, get_char, call, stop, Expressions, no_expressions, an_expression, Arguments, no_arguments, an_argument, passed, erased, Condition, compare, word, pointer, both, either, opposite, Place, local_place, cell_place, Statement, block, declare, assign, update, run_call, free, input, choose, loop, break, continue, return, evaluate, Statements, no_statements, a_statement}
+use Rattle.px_syntax.specs.TypedTree.{Expression, constant, null, local, negated, arithmetic, truth, cell, allocate, get_char, call, stop, Expressions, no_expressions, an_expression, Arguments, no_arguments, an_argument, passed, erased, Condition, compare, word, pointer, both, either, opposite, Place, local_place, cell_place, Statement, block, declare, assign, update, run_call, free, input, choose, loop, break, continue, return, evaluate, access, Statements, no_statements, a_statement}
 
 -- ---- outcomes and exits
 
@@ -257,6 +257,13 @@ module _ {E : Type 0} (seen : Event → E) (types : List BlockType) (calls : Pro
       Takes e locals so_far heap K (λ so_far y heap.
       Calculates op x y so_far heap (by_outcome (failing locals K) (λ so_far v heap. Stores place field t site v locals so_far heap K))))))
 
+  -- pointer, the parts of what would be written, access (C17 6.5.16): nothing is written
+  abbrev pub Accesses : Expression → Expressions → TypeId → Site → Locals → List E → HeapMap → Exits E → Type 0
+  Accesses p parts t site locals so_far heap K =
+      Takes p locals so_far heap K (λ so_far x heap.
+      PassesAll parts locals so_far heap (failing locals K) (λ so_far heap.
+      Reaches x t site so_far heap (failing locals K) (λ so_far heap. K so_far falls locals heap)))
+
   abbrev pub Frees : Value → TypeId → Site → Locals → List E → HeapMap → Exits E → Type 0
   Frees p t site locals so_far heap K = by_pointer heap t.0 p
       (K (so_far ++ marking seen FreeNull site) falls locals heap)
@@ -312,6 +319,7 @@ module _ {E : Type 0} (seen : Event → E) (types : List BlockType) (calls : Pro
     Executes bound n (return e) locals so_far heap K = GivesBack e locals so_far heap K
     Executes bound n (evaluate e) locals so_far heap K =
         PassesAll (an_expression e no_expressions) locals so_far heap (failing locals K) (λ so_far heap. K so_far falls locals heap)
+    Executes bound n (access p parts field t site) locals so_far heap K = Accesses p parts t site locals so_far heap K
 
     pub ExecutesAll : Option ℕ → ℕ → Statements → Locals → List E → HeapMap → Exits E → Type 0
     ExecutesAll bound n no_statements locals so_far heap K = K so_far falls locals heap

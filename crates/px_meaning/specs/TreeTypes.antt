@@ -4,7 +4,7 @@ use Rattle.std.specs.Prelude.{◌≡◌, ℕ, Bool, true, false, IsTrue, List, [
 use Rattle.std.specs.Int.{w32}
 use Rattle.px_base.specs.declared.trace.FieldId.{FieldId}
 use Rattle.px_syntax.specs.declared.typed_expression.Relation.TheVariants as relation
-use Rattle.px_syntax.specs.TypedTree.{Expression, constant, null, local, negated, arithmetic, truth, cell, allocate, get_char, call, stop, Expressions, no_expressions, an_expression, Arguments, no_arguments, an_argument, passed, erased, Condition, compare, word, pointer, both, either, opposite, Place, local_place, cell_place, Statement, block, declare, assign, update, run_call, free, input, choose, loop, break, continue, return, evaluate, Statements, no_statements, a_statement}
+use Rattle.px_syntax.specs.TypedTree.{Expression, constant, null, local, negated, arithmetic, truth, cell, allocate, get_char, call, stop, Expressions, no_expressions, an_expression, Arguments, no_arguments, an_argument, passed, erased, Condition, compare, word, pointer, both, either, opposite, Place, local_place, cell_place, Statement, block, declare, assign, update, run_call, free, input, choose, loop, break, continue, return, evaluate, access, Statements, no_statements, a_statement}
 use Rattle.px_syntax.specs.ProgramTree.{ProcedureTree}
 use Rattle.px_terms.specs.Types.{types_of}
 use Rattle.px_meaning.specs.Values.{TypeId, ValueType, Int, Pointer, BlockType, One, Fields, Opaque}
@@ -100,22 +100,27 @@ module _ (P : TypedProgram) (locals : LocalTypes) where
   IsReturned (Some t) None = ⊥
   IsReturned (Some t) (Some e) = IsOf t e
 
-  -- the step of a loop is nothing, or a statement that only assigns or calls
-  abbrev pub IsStep : Statement → Type 0
-  IsStep (block no_statements) = ⊤
-  IsStep (block (a_statement s rest)) = ⊥
-  IsStep (assign place e) = ⊤
-  IsStep (update op place e) = ⊤
-  IsStep (run_call proc es site) = ⊤
-  IsStep (free e b site) = ⊤
-  IsStep (input site) = ⊤
-  IsStep (declare n e) = ⊥
-  IsStep (choose c first second) = ⊥
-  IsStep (loop site c body step) = ⊥
-  IsStep break = ⊥
-  IsStep continue = ⊥
-  IsStep (return e) = ⊥
-  IsStep (evaluate e) = ⊤
+  abbrev mutual
+    -- the step of a loop only assigns and calls: it declares, chooses, repeats and leaves nothing
+    pub IsStep : Statement → Type 0
+    IsStep (block statements) = AreSteps statements
+    IsStep (assign place e) = ⊤
+    IsStep (update op place e) = ⊤
+    IsStep (run_call proc es site) = ⊤
+    IsStep (free e b site) = ⊤
+    IsStep (input site) = ⊤
+    IsStep (declare n e) = ⊥
+    IsStep (choose c first second) = ⊥
+    IsStep (loop site c body step) = ⊥
+    IsStep break = ⊥
+    IsStep continue = ⊥
+    IsStep (return e) = ⊥
+    IsStep (evaluate e) = ⊤
+    IsStep (access e parts field b site) = ⊤
+
+    pub AreSteps : Statements → Type 0
+    AreSteps no_statements = ⊤
+    AreSteps (a_statement s rest) = IsStep s × AreSteps rest
 
   abbrev mutual
     -- a statement of a procedure with this result, in a loop or not, keeps the rules
@@ -133,6 +138,7 @@ module _ (P : TypedProgram) (locals : LocalTypes) where
     IsStatement result inside continue = IsTrue inside
     IsStatement result inside (return e) = IsReturned result e
     IsStatement result inside (evaluate e) = ArePassed (an_expression e no_expressions)
+    IsStatement result inside (access e parts field b site) = IsOf (Pointer b) e × ArePassed parts × ((t : ValueType) × (type_of_cell P.types b field ≡ Some t))
 
     pub AreStatements : Option ValueType → Bool → Statements → Type 0
     AreStatements result inside no_statements = ⊤

@@ -2,17 +2,17 @@
 use Rattle.std.specs.Prelude.{ℕ, zero, suc, pos, List, [], ◌∷◌, ◌++◌, Option, Some, None, slice_get}
 use Rattle.px_base.specs.declared.trace.Site.{Site}
 use Rattle.px_base.specs.declared.trace.MarkKind.TheVariants.{Else, Got, Input, Access, Freed, Enter, Leave}
-use Rattle.px_base.specs.declared.trace.Kind.TheVariants.{NullDereference, UseAfterFree, DoubleFree}
+use Rattle.px_base.specs.declared.trace.Kind.TheVariants.{NullDereference, UseAfterFree, DoubleFree, UninitialisedRead}
 use Rattle.px_syntax.specs.declared.typed_expression.Arithmetic.TheVariants.{Add}
 use Rattle.px_syntax.specs.declared.typed_expression.Relation.TheVariants as relation
-use Rattle.px_meaning.specs.Values.{ValueType, Int, Pointer, One, Word}
+use Rattle.px_meaning.specs.Values.{TypeId, ValueType, Int, Pointer, One, Fields, Word}
 use Rattle.px_meaning.specs.Heaps.{HeapMap}
 use Rattle.px_meaning.specs.Calls.{error, Returned, Failed}
 use Rattle.px_meaning.specs.Manifest.{Bug, IsManifest}
 use Rattle.px_meaning.specs.Events.{mark}
 use Rattle.px_syntax.specs.ProgramTree.{ProcedureTree}
 use Rattle.px_meaning.specs.TypedProgram.{TypedProgram}
-use Rattle.px_syntax.specs.TypedTree.{constant, null, local, arithmetic, cell, allocate, get_char, call, an_expression, no_expressions, passed, erased, an_argument, no_arguments, compare, local_place, cell_place, Statement, block, declare, assign, update, run_call, free, choose, loop, return, no_statements, statements_of}
+use Rattle.px_syntax.specs.TypedTree.{constant, null, local, arithmetic, cell, allocate, get_char, call, an_expression, no_expressions, passed, erased, an_argument, no_arguments, compare, local_place, cell_place, Statement, block, declare, assign, update, run_call, free, choose, loop, return, access, no_statements, statements_of}
 use Rattle.px_meaning.specs.TreeCalls.{TreeCalls, BoundedTreeCalls}
 use Rattle.px_meaning.specs.WorkedBodies.{at, int_block, only_field, empty_heap, unchecked_bug, wraps_bug, reads_input_bug, unset_local_bug, until_freed, two_turns}
 
@@ -106,6 +106,38 @@ around_passed_trees (suc f) = Some (a_procedure 1 2 [] (Some Int) [] (return (So
 abbrev pub around_passed_program : TypedProgram
 around_passed_program = record { types = One Int ∷ []; procedures = around_passed_trees }
 
+-- `struct s { int v; char c; };`: only v is known
+abbrev pub struct_block : TypeId
+struct_block = record { 0 = 0 }
+
+abbrev pub struct_program : ProcedureTree → TypedProgram
+struct_program p = record { types = Fields (Int ∷ []) ∷ []; procedures = λ f. slice_get (p ∷ []) f }
+
+-- `p->c = getchar();`, at p, `->` and that word
+abbrev pub set_unknown : Site → Site → Site → Statement
+set_unknown token arrow word = access (local 0 token) (an_expression (get_char word) no_expressions) only_field struct_block arrow
+
+-- `void f(void) { struct s *p = 0; p->c = getchar(); }`
+abbrev pub member_of_null_tree : TypedProgram
+member_of_null_tree = struct_program (a_procedure 0 2 [] None (Pointer struct_block ∷ []) (declare 0 (Some null) ∷ set_unknown (at 2 33) (at 2 34) (at 2 40) ∷ []))
+
+abbrev pub member_of_null_bug : Bug
+member_of_null_bug = record { kind = NullDereference; site = at 2 34; trace = mark Input (at 2 40) ∷ mark Access (at 2 34) ∷ [] }
+
+-- `void f(void) { struct s *p; p->c = getchar(); }`
+abbrev pub member_of_unset_tree : TypedProgram
+member_of_unset_tree = struct_program (a_procedure 0 2 [] None (Pointer struct_block ∷ []) (declare 0 None ∷ set_unknown (at 2 29) (at 2 30) (at 2 36) ∷ []))
+
+abbrev pub member_of_unset_bug : Bug
+member_of_unset_bug = record { kind = UninitialisedRead; site = at 2 29; trace = [] }
+
+-- `int f(void) { struct s *p = malloc(sizeof(struct s)); p->v = 7; p->c = getchar(); return p->v; }`
+abbrev pub member_kept_tree : TypedProgram
+member_kept_tree = struct_program (a_procedure 0 2 [] (Some Int) (Pointer struct_block ∷ []) (declare 0 (Some (allocate struct_block (at 2 29)))
+    ∷ assign (cell_place (local 0 (at 2 55)) only_field struct_block (at 2 56)) (constant (pos 7))
+    ∷ set_unknown (at 2 65) (at 2 66) (at 2 72)
+    ∷ return (Some (cell (local 0 (at 2 90)) only_field struct_block (at 2 91))) ∷ []))
+
 -- What these programs do.
 pub record WorkedTreeExecutions : Type 0 where
   pub unchecked_malloc : IsManifest (TreeCalls unchecked_tree 0) (One Int ∷ []) [] unchecked_bug
@@ -121,3 +153,8 @@ pub record WorkedTreeExecutions : Type 0 where
   pub erased_access : IsManifest (TreeCalls erased_access_program 1) (One Int ∷ []) [] erased_access_bug
   pub around_passed : (end : HeapMap) × TreeCalls around_passed_program 1 [] empty_heap
       (mark Input (at 2 27) ∷ mark Input (at 2 41) ∷ mark (Enter (record { 0 = 0 })) (at 2 22) ∷ mark Leave (at 2 22) ∷ []) (Returned (Word (pos 7))) end
+  -- a member that isn't known: the pointer comes first, and the access behind what would be written; the cell that is known is kept
+  pub member_of_null : IsManifest (TreeCalls member_of_null_tree 0) (Fields (Int ∷ []) ∷ []) [] member_of_null_bug
+  pub member_of_unset : IsManifest (TreeCalls member_of_unset_tree 0) (Fields (Int ∷ []) ∷ []) [] member_of_unset_bug
+  pub member_kept : (end : HeapMap) × TreeCalls member_kept_tree 0 [] empty_heap
+      (mark Got (at 2 29) ∷ mark Access (at 2 56) ∷ mark Input (at 2 72) ∷ mark Access (at 2 66) ∷ mark Access (at 2 91) ∷ []) (Returned (Word (pos 7))) end

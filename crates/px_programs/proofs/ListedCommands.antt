@@ -8,7 +8,7 @@ use Rattle.px_core.specs.CommandTree as command
 use Rattle.px_syntax.specs.declared.typed_expression.Arithmetic.{Arithmetic}
 use Rattle.px_syntax.specs.declared.typed_expression.Relation.{Relation}
 use Rattle.px_syntax.specs.declared.typed_expression.Relation.TheVariants as relation
-use Rattle.px_syntax.specs.TypedTree.{Expression, constant, null, local, negated, arithmetic, truth, cell, allocate, get_char, call, stop, Expressions, no_expressions, an_expression, Arguments, no_arguments, an_argument, passed, erased, Condition, compare, word, pointer, both, either, opposite, Place, local_place, cell_place, Statement, block, declare, assign, update, run_call, free, input, choose, loop, break, continue, return, evaluate, Statements, no_statements, a_statement}
+use Rattle.px_syntax.specs.TypedTree.{Expression, constant, null, local, negated, arithmetic, truth, cell, allocate, get_char, call, stop, Expressions, no_expressions, an_expression, Arguments, no_arguments, an_argument, passed, erased, Condition, compare, word, pointer, both, either, opposite, Place, local_place, cell_place, Statement, block, declare, assign, update, run_call, free, input, choose, loop, break, continue, return, evaluate, access, Statements, no_statements, a_statement}
 use Rattle.px_syntax.specs.declared.typed_expression.Arithmetic.TheVariants.{Add, Subtract, Multiply, Divide, Remainder}
 use Rattle.px_lower.specs.Lowering.{Lowered, and_then, doing, copy, lowered_expression, lowered_arguments, lowered_passed, lowered_condition, comparison, lowered_declaration, lowered_assignment, lowered_update, lowered_head, lowered_return, lowered_statement, lowered_statements, applied, operation, result_slot}
 use Rattle.px_lower.proofs.Sequences.{commands_then}
@@ -160,6 +160,9 @@ module _ (names types : ℕ) where
     statement_listed continue n h = (tt, tt)
     statement_listed (return e) n h = return_listed e n h
     statement_listed (evaluate e) n h = passed_listed (an_expression e no_expressions) n (h, tt)
+    statement_listed (access e parts field b site) n h =
+        let m = (lowered_expression e n).next in
+        then' (lowered_expression e n) _ (expression_listed e n h.0) (λ x. then' (lowered_passed parts m) _ (passed_listed parts m h.1) (λ u. (h.2, (tt, tt))))
 
     statements_listed : (ss : Statements) (n : ℕ) → AreStatementsListed names types ss → All (lowered_statements ss n).commands
     statements_listed no_statements n h = tt

@@ -158,7 +158,7 @@ module _ (env : Environment) (P : TypedProgram) (names : ℕ) (locals : LocalTyp
   place_good (of_type t (T.cell e field block site)) h = h.1
   place_good (of_type t (T.allocate block site)) h = tt
   place_good (of_type t (T.get_char site)) h = tt
-  place_good (of_type t (T.call proc arguments result site)) h = tt
+  place_good (of_type t (T.call proc es result site)) h = tt
   place_good (of_type t (T.stop number site parts)) h = tt
   place_good a_null h = tt
   place_good a_zero h = tt

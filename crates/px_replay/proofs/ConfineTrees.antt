@@ -4,21 +4,21 @@ use Rattle.std.proofs.Common.{◌≡◌, ◌⊎◌, ℕ, zero, suc, pos, Bool, t
 use Rattle.px_base.specs.declared.trace.Site.{Site}
 use Rattle.px_base.specs.declared.trace.MarkKind.TheVariants.{Iter, Done}
 use Rattle.px_core.specs.declared.command.Operator.TheVariants.{Neg}
-use Rattle.px_meaning.specs.Values.{BlockType, Value, Word, Null, Unwritten}
+use Rattle.px_meaning.specs.Values.{TypeId, BlockType, Value, Word, Null, Unwritten}
 use Rattle.px_meaning.specs.Heaps.{HeapMap}
 use Rattle.px_meaning.specs.Events.{Event}
 use Rattle.px_meaning.specs.Execution.{Locals, with_local}
 use Rattle.px_meaning.specs.Operations.{result_of}
 use Rattle.px_meaning.specs.Steps.{ProcedureCalls}
-use Rattle.px_meaning.specs.TreeExecution.{errs, by_outcome, Outcomes, fault, Verdicts, Exits, CallsProcedure, Evaluates, EvaluatesAll, PassesAll, Tests, failing, Declares, Assigns, Updates, TestsIf, Loops, GivesBack, Executes, ExecutesAll, Calculates}
+use Rattle.px_meaning.specs.TreeExecution.{errs, by_outcome, Outcomes, fault, Verdicts, Exits, CallsProcedure, Evaluates, EvaluatesAll, PassesAll, Tests, failing, Declares, Assigns, Updates, Accesses, TestsIf, Loops, GivesBack, Executes, ExecutesAll, Calculates}
 use Rattle.px_syntax.specs.declared.typed_expression.Relation.TheVariants as relation
-use Rattle.px_syntax.specs.TypedTree.{Expression, constant, null, local, negated, arithmetic, truth, cell, allocate, get_char, call, stop, Expressions, no_expressions, an_expression, Arguments, no_arguments, an_argument, passed, erased, Condition, compare, word, pointer, both, either, opposite, Place, local_place, cell_place, Statement, block, declare, assign, update, run_call, free, input, choose, loop, break, continue, return, evaluate, Statements, no_statements, a_statement}
+use Rattle.px_syntax.specs.TypedTree.{Expression, constant, null, local, negated, arithmetic, truth, cell, allocate, get_char, call, stop, Expressions, no_expressions, an_expression, Arguments, no_arguments, an_argument, passed, erased, Condition, compare, word, pointer, both, either, opposite, Place, local_place, cell_place, Statement, block, declare, assign, update, run_call, free, input, choose, loop, break, continue, return, evaluate, access, Statements, no_statements, a_statement}
 use Rattle.px_syntax.specs.declared.typed_expression.Arithmetic.{Arithmetic}
 use Rattle.px_replay.specs.declared.flow.Flow.TheVariants.{Falls, Breaks, Continues, Returns}
-use Rattle.px_replay.specs.Beginnings.{CallBeginnings, see, no_error, after_halt, IsCutInCall, IsCutIn, IsCutInAll, IsCutInPassed, IsCutInTest, IsCutInValue, IsCutInTestIf, IsCutInAssignment, IsCutInUpdate, IsCutInLoop, IsCutInStatement, IsCutInStatements}
+use Rattle.px_replay.specs.Beginnings.{CallBeginnings, see, no_error, after_halt, IsCutInCall, IsCutIn, IsCutInAll, IsCutInPassed, IsCutInTest, IsCutInValue, IsCutInTestIf, IsCutInAssignment, IsCutInUpdate, IsCutInAccess, IsCutInLoop, IsCutInStatement, IsCutInStatements}
 use Rattle.px_replay.specs.Operations.{calculates}
 use Rattle.px_replay.specs.Script.{Act, answers, and_then}
-use Rattle.px_replay.specs.TreeReplay.{CallReplays, Ended, StatementReplays, calls_procedure, Replays, ReplaysAll, PassesAll as Passes, Checks, declares, assigns, updates, gives_back, checks_if, loops, ReplaysStatement, ReplaysStatements}
+use Rattle.px_replay.specs.TreeReplay.{CallReplays, Ended, StatementReplays, calls_procedure, Replays, ReplaysAll, PassesAll as Passes, Checks, declares, assigns, updates, accesses, gives_back, checks_if, loops, ReplaysStatement, ReplaysStatements}
 use Rattle.px_replay.proofs.Confine.{Errors, Goals, Confines, no_cut, fewer, fewer_cuts, or_after, at_once, stops, both_cuts, marked_part}
 use Rattle.px_replay.proofs.ConfineForms.{outcomes, ways, verdicts, exits, Part, Cuts, PassesErrors, through_value, through_outcome, through_ways, through_ways_after, through_verdict, maybe, through_fall, through_body}
 use Rattle.px_replay.proofs.ConfineActs.{uses_part, loads_part, reaches_part, stores_part, frees_part, calculated_part}
@@ -190,6 +190,12 @@ module _ (t : List Event) (size : ℕ) (types : List BlockType) (C : ProcedureCa
       takes l (value_confined p l) (λ place. takes l (fewer_cuts t size (λ so_far heap c. inr c) (value_after (loads_part t size types C place field b site)))
       (λ x. first_alone (takes l (value_confined e l) (λ y. takes_calculated op x y l (λ v. stores_part t size types C place field b site v l)))))
 
+  accesses_confined : (p : Expression) (parts : Expressions) (b : TypeId) (site : Site) (l : Locals) →
+      Confines t size exits (accesses types R p parts b site l) (λ K so_far heap. Accesses see types C p parts b site l so_far heap K) (λ so_far heap. IsCutInAccess types C B (λ a. t ≡ a) p parts l so_far heap)
+  accesses_confined p parts b site l =
+      takes l (value_confined p l) (λ x. first_alone (through_ways t size exits (failing see types C l) (failing_so l) (passed_confined parts l)
+      (λ _. first_alone (through_ways t size exits (failing see types C l) (failing_so l) (reaches_part t size types C x b site) (λ _. at_once t size exits (Falls, l))))))
+
   gives_confined : (e : Option Expression) (l : Locals) →
       Confines t size exits (gives_back types R e l) (λ K so_far heap. GivesBack see types C e l so_far heap K) (λ so_far heap. IsCutInValue types C B (λ a. t ≡ a) e l so_far heap)
   gives_confined None l = at_once t size exits (Returns Unwritten, l)
@@ -270,6 +276,7 @@ module _ (t : List Event) (size : ℕ) (types : List BlockType) (C : ProcedureCa
     statement_confined n m (return e) l = gives_confined e l
     statement_confined n m (evaluate e) l =
         first_alone (through_ways t size exits (failing see types C l) (failing_so l) (passed_confined (an_expression e no_expressions) l) (λ _. at_once t size exits (Falls, l)))
+    statement_confined n m (access p parts field b site) l = statement_after (accesses_confined p parts b site l)
 
     statements_confined : (n m : ℕ) (ws : Statements) (l : Locals) → StatementsConfined n m ws l
     statements_confined n m no_statements l = at_once t size exits (Falls, l)

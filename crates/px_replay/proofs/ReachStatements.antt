@@ -10,21 +10,21 @@ use Rattle.px_meaning.specs.Heaps.{HeapMap, with_block}
 use Rattle.px_meaning.specs.Execution.{Locals, with_local}
 use Rattle.px_meaning.specs.Events.{Event}
 use Rattle.px_meaning.specs.Steps.{ProcedureCalls, marking, live_block, freed_block}
-use Rattle.px_meaning.specs.TreeExecution.{Outcomes, by_outcome, Verdicts, with_verdict, falls, returns, fails, Exits, with_fall, behind_body, Loads, Stores, CallsProcedure, failing, Takes, Declares, Assigns, Updates, Frees, TestsIf, Loops, GivesBack, Executes, ExecutesAll, Calculates}
-use Rattle.px_syntax.specs.TypedTree.{Expression, no_expressions, an_expression, Condition, Place, local_place, cell_place, Statement, block, declare, assign, update, run_call, free, input, choose, loop, break, continue, return, evaluate, Statements, no_statements, a_statement}
+use Rattle.px_meaning.specs.TreeExecution.{Outcomes, by_outcome, Verdicts, with_verdict, falls, returns, fails, Exits, with_fall, behind_body, Loads, Reaches as Gets, Stores, CallsProcedure, PassesAll, failing, Takes, Declares, Assigns, Updates, Accesses, Frees, TestsIf, Loops, GivesBack, Executes, ExecutesAll, Calculates}
+use Rattle.px_syntax.specs.TypedTree.{Expression, Expressions, no_expressions, an_expression, Condition, Place, local_place, cell_place, Statement, block, declare, assign, update, run_call, free, input, choose, loop, break, continue, return, evaluate, access, Statements, no_statements, a_statement}
 use Rattle.px_syntax.specs.declared.typed_expression.Arithmetic.{Arithmetic}
 use Rattle.px_replay.specs.declared.stop.Stop.{Stop}
 use Rattle.px_replay.specs.declared.stop.Stop.TheVariants as stop
 use Rattle.px_replay.specs.declared.flow.Flow.TheVariants.{Falls, Breaks, Continues, Returns}
-use Rattle.px_replay.specs.Beginnings.{see, CallBeginnings, no_error, no_exit, no_branch, after_value, after_statement, IsCutInCall, IsCutIn, IsCutInValue, IsCutInTestIf, IsCutInAssignment, IsCutInUpdate, IsCutInLoop, IsCutInStatement, IsCutInStatements}
+use Rattle.px_replay.specs.Beginnings.{see, CallBeginnings, no_error, no_exit, no_branch, after_value, after_statement, IsCutInCall, IsCutIn, IsCutInPassed, IsCutInValue, IsCutInTestIf, IsCutInAssignment, IsCutInUpdate, IsCutInAccess, IsCutInLoop, IsCutInStatement, IsCutInStatements}
 use Rattle.px_replay.specs.Operations.{calculates}
 use Rattle.px_replay.specs.Script.{PlainScript, Act, behind, answers, and_then, marked, with_heap}
-use Rattle.px_replay.specs.TreeReplay.{CallReplays, Ended, StatementReplays, Replays, stores, frees, declares, assigns, updates, gives_back, checks_if, on_fall, on_turn, loops, ReplaysStatement, ReplaysStatements}
+use Rattle.px_replay.specs.TreeReplay.{CallReplays, Ended, StatementReplays, Replays, stores, frees, declares, assigns, updates, accesses, gives_back, checks_if, on_fall, on_turn, loops, ReplaysStatement, ReplaysStatements}
 use Rattle.px_replay.proofs.Confine.{Goals}
 use Rattle.px_replay.proofs.ConfineForms.{verdicts, at_exit}
 use Rattle.px_replay.proofs.TakenBlocks.{same_taken}
 use Rattle.px_replay.proofs.ReachActs.{IsDone, never, Does, Cuts, no_cuts, Reaches, answers_reached, departs_reached, mark_reached, write_reached, marked_reached, close, more_cuts, then_cut, then_last, then_done, leads_to}
-use Rattle.px_replay.proofs.ReachTrees.{CallReached, uses_reached, loads_reached, input_reached, call_reached, either_reached, eval_reached, all_reached, passed_reached, test_reached, calculated_reached}
+use Rattle.px_replay.proofs.ReachTrees.{CallReached, uses_reached, loads_reached, gets_reached, input_reached, call_reached, either_reached, eval_reached, all_reached, passed_reached, test_reached, calculated_reached}
 
 -- the goals of a statement; an error comes to them with all locals, since a replay doesn't tell them
 abbrev pub exits : Goals Ended
@@ -126,6 +126,18 @@ module _ (types : List BlockType) (C : CallReplays) (calls : ProcedureCalls Even
       (λ place (r2, s2, b, h). then_cut _ (taking l (on place)) (in_value e l) (λ K t halt site h k. k l)
       (close (λ Cut. after_value types calls begun Cut) (λ Cut t x h c. c) (λ Cut t kind site h c. c) (λ Cut so_far c. absurd c) (λ Cut so_far c. c) (loads_reached types C calls begun reached place field t site b))
       (λ x k. right_reached op x e l _ (λ K so_far v heap. Stores see types calls place field t site v l so_far heap K) (λ v s k. stores_reached place field t site v l k) k) h) h
+
+  accesses_reached : {s : PlainScript} {r : Result Ended Stop} {s' : PlainScript} → (p : Expression) (parts : Expressions) (t : TypeId) (site : Site) (l : Locals) → accesses types C p parts t site l s r s' →
+      Reaches exits IsDone (Accesses see types calls p parts t site l) (λ Cut so_far heap. IsCutInAccess types calls begun Cut p parts l so_far heap) s r s'
+  accesses_reached p parts t site l (r1, s1, a, h) =
+      let on : Value → Exits Event → List Event → HeapMap → Type 0 = λ x K so_far heap. Gets see types calls x t site so_far heap (failing see types calls l K) (λ so_far heap. K so_far falls l heap) in
+      then_cut _ (taking l (λ K so_far x heap. PassesAll see types calls parts l so_far heap (failing see types calls l K) (on x K)))
+      (λ Cut. by_outcome no_error (λ so_far x heap. IsCutInPassed types calls begun Cut parts l so_far heap)) (λ K t halt site h k. k l)
+      (eval_reached types C calls begun reached p l a)
+      (λ x (r2, s2, b, h). then_last _ (λ K. (failing see types calls l K, λ so_far u heap. on x K so_far heap)) (λ K t halt site h k. k l)
+      (passed_reached types C calls begun reached parts l b)
+      (λ u (r3, s3, d, h). then_done (λ v. Ok (Falls, l)) (λ K. (failing see types calls l K, λ so_far u heap. K so_far falls l heap)) (λ K t halt site h k. k l)
+      (λ v. _) (λ v so_far K k. k) (gets_reached types C calls begun reached x t site d) h) h) h
 
   -- ---- after statements
 
@@ -268,6 +280,7 @@ module _ (types : List BlockType) (C : CallReplays) (calls : ProcedureCalls Even
     run_reached n (evaluate e) l (r1, s1, a, h) =
         then_last _ (λ K. (failing see types calls l K, λ so_far v heap. K so_far falls l heap)) (λ K t halt site h k. k l) (passed_reached types C calls begun reached (an_expression e no_expressions) l a)
         (λ v k. falls_reached l (λ so_far K k. k) k) h
+    run_reached n (access p parts field t site) l h = close_statement n (access p parts field t site) l (λ Cut so_far c. inl c) (λ Cut so_far c. inr c) (accesses_reached p parts t site l h)
 
     pub runs_reached : {s : PlainScript} {r : Result Ended Stop} {s' : PlainScript} → (n : ℕ) (sts : Statements) (l : Locals) → ReplaysStatements types C n sts l s r s' → RunAll n sts l s r s'
     runs_reached n no_statements l h = falls_reached l (λ so_far K k. k) h

@@ -104,7 +104,7 @@ module _ (types : List BlockType) (C : CallReplays) (calls : ProcedureCalls Even
   loads_reached p field t site (inr (o, h)) = departs_reached h
 
   -- a cell that is reached and not read
-  gets_reached : {s : PlainScript} {r : Result ⊤ Stop} {s' : PlainScript} → (p : Value) (t : TypeId) (site : Site) → reaches p t site s r s' →
+  pub gets_reached : {s : PlainScript} {r : Result ⊤ Stop} {s' : PlainScript} → (p : Value) (t : TypeId) (site : Site) → reaches p t site s r s' →
       Reaches (ways ⊤) IsDone (λ so_far heap K. Gets see types calls p t site so_far heap K.0 (λ so_far heap. K.1 so_far tt heap)) no_cuts s r s'
   gets_reached {s = s} {r = r} {s' = s'} p t site (inl h) =
       leads_to (Reaches (ways ⊤) IsDone (λ so_far heap K. Gets see types calls p t site so_far heap K.0 (λ so_far heap. K.1 so_far tt heap)) no_cuts s r s') s.heap t.0 p

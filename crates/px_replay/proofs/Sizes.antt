@@ -8,7 +8,7 @@ use Rattle.px_syntax.specs.declared.typed_expression.TypedExpression.{TypedExpre
 use Rattle.px_syntax.specs.declared.typed_expression.Argument.{Argument as RustArgument}
 use Rattle.px_syntax.specs.declared.typed_expression.Condition.{Condition as RustCondition}
 use Rattle.px_syntax.specs.declared.typed_statement.TypedStatement.{TypedStatement}
-use Rattle.px_syntax.specs.TypedTree.{Expression, constant, null, local, negated, arithmetic, truth, cell, allocate, get_char, call, stop, Expressions, no_expressions, an_expression, Arguments, Argument, no_arguments, an_argument, passed, erased, Condition, compare, word, pointer, both, either, opposite, Place, local_place, cell_place, Statement, block, declare, assign, update, run_call, free, input, choose, loop, break, continue, return, evaluate, Statements, no_statements, a_statement, expressions_of, arguments_of, statements_of}
+use Rattle.px_syntax.specs.TypedTree.{Expression, constant, null, local, negated, arithmetic, truth, cell, allocate, get_char, call, stop, Expressions, no_expressions, an_expression, Arguments, Argument, no_arguments, an_argument, passed, erased, Condition, compare, word, pointer, both, either, opposite, Place, local_place, cell_place, Statement, block, declare, assign, update, run_call, free, input, choose, loop, break, continue, return, evaluate, access, Statements, no_statements, a_statement, expressions_of, arguments_of, statements_of}
 use Rattle.px_syntax.specs.TypedViews.{ArithmeticLinkTree, RelationLinkTree, typed_expression, typed_argument, typed_condition, typed_statement, arithmetic_link, relation_link, calculated, compared, cells, all_of, any_of}
 use Rattle.px_replay.specs.declared.callees.Callees.{Callees}
 
@@ -73,6 +73,7 @@ abbrev mutual
   statement_size continue = 1
   statement_size (return e) = suc (value_size e)
   statement_size (evaluate e) = suc (size_of e)
+  statement_size (access p parts field t site) = suc (suc (size_of p + sizes_of parts))
 
   pub statements_size : Statements → ℕ
   statements_size no_statements = 0

@@ -14,7 +14,7 @@ use Rattle.px_meaning.specs.Execution.{Locals, with_local}
 use Rattle.px_meaning.specs.Events.{Event}
 use Rattle.px_meaning.specs.Steps.{ProcedureCalls, marking}
 use Rattle.px_meaning.specs.TypedProgram.{TypedProgram}
-use Rattle.px_syntax.specs.TypedTree.{Expression, constant, null, local, negated, arithmetic, truth, cell, allocate, get_char, call, stop, Expressions, no_expressions, an_expression, Arguments, no_arguments, an_argument, passed, erased, Condition, compare, word, pointer, both, either, opposite, Place, local_place, cell_place, Statement, block, declare, assign, update, run_call, free, input, choose, loop, break, continue, return, evaluate, Statements, no_statements, a_statement}
+use Rattle.px_syntax.specs.TypedTree.{Expression, constant, null, local, negated, arithmetic, truth, cell, allocate, get_char, call, stop, Expressions, no_expressions, an_expression, Arguments, no_arguments, an_argument, passed, erased, Condition, compare, word, pointer, both, either, opposite, Place, local_place, cell_place, Statement, block, declare, assign, update, run_call, free, input, choose, loop, break, continue, return, evaluate, access, Statements, no_statements, a_statement}
 use Rattle.px_meaning.specs.TreeExecution.{Outcome, by_outcome, with_verdict, Verdict, Exits, with_fall, behind_body, Uses, Loads, Reaches, CallsProcedure, Evaluates, EvaluatesAll, PassesAll, Tests, TestsIf, Executes}
 use Rattle.px_meaning.specs.TreeCalls.{first_locals, TreeCallsWithin}
 
@@ -146,6 +146,12 @@ module _ (types : List BlockType) (calls : ProcedureCalls Event) (begun : CallBe
       Loads see types calls place field t site so_far heap after_value
       ⊎ Loads see types calls place field t site so_far heap (by_outcome no_error (λ so_far x heap. IsCutIn e locals so_far heap))))
 
+  -- before the access to a member that isn't known
+  abbrev pub IsCutInAccess : Expression → Expressions → Locals → List Event → HeapMap → Type 0
+  IsCutInAccess p parts locals so_far heap =
+      IsCutIn p locals so_far heap
+      ⊎ Evaluates see types calls p locals so_far heap (by_outcome no_error (λ so_far x heap. IsCutInPassed parts locals so_far heap))
+
   -- In a loop that makes fewer than n turns more: `body` and `after_body` execute its parts, and `in_body` and
   -- `in_step` say that the cut lies in them.
   abbrev pub IsCutInLoop : ℕ → Site → Option Condition → (body after_body : Locals → List Event → HeapMap → Exits Event → Type 0) → (in_body in_step : Locals → List Event → HeapMap → Type 0) → Locals → List Event → HeapMap → Type 0
@@ -188,6 +194,8 @@ module _ (types : List BlockType) (calls : ProcedureCalls Event) (begun : CallBe
     IsCutInStatement n continue locals so_far heap = ⊥
     IsCutInStatement n (return e) locals so_far heap = IsCutInValue e locals so_far heap
     IsCutInStatement n (evaluate e) locals so_far heap = IsCutInPassed (an_expression e no_expressions) locals so_far heap
+    IsCutInStatement n (access p parts field t site) locals so_far heap =
+        IsCutInAccess p parts locals so_far heap ⊎ Executes see types calls None n (access p parts field t site) locals so_far heap after_statement
 
     pub IsCutInStatements : ℕ → Statements → Locals → List Event → HeapMap → Type 0
     IsCutInStatements n no_statements locals so_far heap = ⊥

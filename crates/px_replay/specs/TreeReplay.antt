@@ -17,7 +17,7 @@ use Rattle.px_meaning.specs.TreeCalls.{first_locals}
 use Rattle.px_syntax.specs.ProgramTree.{ProcedureTree}
 use Rattle.px_syntax.specs.declared.typed_expression.Relation.{Relation}
 use Rattle.px_syntax.specs.declared.typed_expression.Relation.TheVariants as relation
-use Rattle.px_syntax.specs.TypedTree.{Expression, constant, null, local, negated, arithmetic, truth, cell, allocate, get_char, call, stop, Expressions, no_expressions, an_expression, Arguments, no_arguments, an_argument, passed, erased, Condition, compare, word, pointer, both, either, opposite, Place, local_place, cell_place, Statement, block, declare, assign, update, run_call, free, input, choose, loop, break, continue, return, evaluate, Statements, no_statements, a_statement}
+use Rattle.px_syntax.specs.TypedTree.{Expression, constant, null, local, negated, arithmetic, truth, cell, allocate, get_char, call, stop, Expressions, no_expressions, an_expression, Arguments, no_arguments, an_argument, passed, erased, Condition, compare, word, pointer, both, either, opposite, Place, local_place, cell_place, Statement, block, declare, assign, update, run_call, free, input, choose, loop, break, continue, return, evaluate, access, Statements, no_statements, a_statement}
 use Rattle.px_syntax.specs.declared.typed_expression.Arithmetic.{Arithmetic}
 use Rattle.px_replay.specs.declared.stop.Stop.{Stop}
 use Rattle.px_replay.specs.declared.stop.Stop.TheVariants as halt
@@ -145,6 +145,11 @@ module _ (types : List BlockType) (calls : CallReplays) where
       and_then (Replays p locals) (λ place. and_then (loads place field t site) (λ x. and_then (Replays e locals) (λ y. and_then (answers (calculates op x y))
       (λ v. stores place field t site v locals))))
 
+  -- pointer, the parts of what would be written, access (C17 6.5.16): nothing is written
+  abbrev pub accesses : Expression → Expressions → TypeId → Site → StatementReplays
+  accesses p parts t site locals =
+      and_then (Replays p locals) (λ x. and_then (PassesAll parts locals) (λ _. and_then (reaches x t site) (λ _. answers (Ok (Falls, locals)))))
+
   abbrev pub gives_back : Option Expression → StatementReplays
   gives_back None locals = answers (Ok (Returns Unwritten, locals))
   gives_back (Some e) locals = and_then (Replays e locals) (λ v. answers (Ok (Returns v, locals)))
@@ -195,6 +200,7 @@ module _ (types : List BlockType) (calls : CallReplays) where
     ReplaysStatement n continue locals s r s' = answers (Ok (Continues, locals)) s r s'
     ReplaysStatement n (return e) locals s r s' = gives_back e locals s r s'
     ReplaysStatement n (evaluate e) locals s r s' = and_then (PassesAll (an_expression e no_expressions) locals) (λ _. answers (Ok (Falls, locals))) s r s'
+    ReplaysStatement n (access p parts field t site) locals s r s' = accesses p parts t site locals s r s'
 
     pub ReplaysStatements : ℕ → Statements → StatementReplays
     ReplaysStatements n no_statements locals s r s' = answers (Ok (Falls, locals)) s r s'

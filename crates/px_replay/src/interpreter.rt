@@ -7,7 +7,7 @@ ghost use Rattle.px_meaning.specs.Values as value;
 ghost use Rattle.px_replay.specs.Interpreted.{calls_of, types_in, ended, ends_turn, given, given_these};
 ghost use Rattle.px_replay.specs.Locals.{locals_map};
 ghost use Rattle.px_replay.specs.Script.{plain_script, UnlessMemory};
-ghost use Rattle.px_replay.specs.TreeReplay.{Replays, ReplaysAll, PassesAll, Checks, checks_if, declares, assigns, updates, gives_back, calls_procedure, loops, ReplaysStatement, ReplaysStatements};
+ghost use Rattle.px_replay.specs.TreeReplay.{Replays, ReplaysAll, PassesAll, Checks, checks_if, declares, assigns, updates, accesses, gives_back, calls_procedure, loops, ReplaysStatement, ReplaysStatements};
 
 use crate::callees::Callees;
 use crate::flow::Flow;
@@ -480,6 +480,11 @@ fn statement(
             effect(alloc, callees, value, locals, script)?;
             Ok(Flow::Falls)
         }
+        TypedStatement::Access {
+            pointer,
+            parts,
+            cell,
+        } => access(alloc, callees, pointer, parts, *cell, locals, script),
     }
 }
 
@@ -588,6 +593,25 @@ fn update(
             store(alloc, script, at, cell, calculated(operator, x, y)?)?;
         }
     }
+    Ok(Flow::Falls)
+}
+
+// An assignment to a member that isn't known: pointer, the parts of the value, access.
+#[cycle(replay)]
+fn access(
+    alloc: Global,
+    callees: &Callees,
+    pointer: &TypedExpression,
+    parts: &[TypedExpression],
+    cell: CellLink,
+    locals: &Locals,
+    script: &mut Script,
+) -> Result<Flow, Stop>
+    ensures { UnlessMemory result (accesses (types_in callees.now) (calls_of callees.now) (typed_expression pointer.now) (expressions_of (map typed_expression parts.now)) cell.block cell.site (locals_map locals.now) (plain_script script.old) (ended result (locals_map locals.now)) (plain_script script.new)) }
+{
+    let at = expression(alloc, callees, pointer, locals, script)?;
+    effects(alloc, callees, parts, locals, script)?;
+    reach(script, at, cell.block, cell.site)?;
     Ok(Flow::Falls)
 }
 

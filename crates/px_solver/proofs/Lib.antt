@@ -4,6 +4,7 @@ pub mod TruthLemmas
 pub mod SearchLemmas
 pub mod ChainLemmas
 pub mod CandidateLemmas
+pub mod EndLemmas
 pub mod TouchLemmas
 pub mod ComponentLemmas
 pub mod MarkLemmas

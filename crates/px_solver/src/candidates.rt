@@ -71,15 +71,11 @@ fn put_constants(values: &mut Vec<u32>, conjunct: &Conj) -> Result<(), AllocErro
     }
 }
 
-// The words that are tried in all components.
-fn put_ends(values: &mut Vec<u32>) -> Result<(), AllocError>
-    ensures { OnOk result (values.new.items ≡ fold put_few values.old.items spec.end_words) }
+/// The words that are tried first, in all components.
+pub(crate) fn end_words() -> [u32; 5]
+    ensures { result ≡ spec.end_words }
 {
-    put(values, 0)?;
-    put(values, 1)?;
-    put(values, u32::MAX)?;
-    put(values, 1 << 31)?;
-    put(values, u32::MAX >> 1)
+    [0, 1, u32::MAX, 1 << 31, u32::MAX >> 1]
 }
 
 // The words that are tried for the constants of the conjuncts at these places.
@@ -92,7 +88,7 @@ fn constant_words(
     ensures { IfOk result (λ values. values.items ≡ fold put_few [] (spec.constant_words (picked conjuncts.now indexes.now))) }
 {
     let mut values = Vec::new(alloc);
-    put_ends(&mut values)?;
+    values.extend_from_slice(&end_words())?;
     for i in 0..indexes.len() {
         put_constants(&mut values, &conjuncts[indexes[i] as usize])?;
     }

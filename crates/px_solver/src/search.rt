@@ -25,7 +25,7 @@ fn are_true(conjuncts: &[Conj], indexes: &[u32], table: &[Node], roots: &[u32]) 
     true
 }
 
-// GivesCandidates the members, which are roots, the first candidates that make the conjuncts at these places true.
+// Gives the members, which are roots, the first candidates that make the conjuncts at these places true.
 // Takes no memory.
 pub(crate) fn search(
     members: &[u32],

@@ -5,14 +5,37 @@ ghost use Rattle.px_solver.specs.Tables as spec;
 ghost use Rattle.px_solver.specs.Tables.{AgreeOutside, AreApart, IsSolved, HasFailed};
 ghost use Rattle.px_solver.specs.Layouts.{mark_at, IsLayout, HasSolved, HasNoSolution, stop_at};
 
-use crate::candidates::candidates;
+use crate::candidates::{candidates, end_words};
 use crate::chains::{Chains, places_of};
 use crate::search::search;
 use px_plain::Node;
 use px_terms::{Conj, NoMemory};
 use std::alloc::Global;
 
-// GivesCandidates the members of a component the first candidates that make its conjuncts true. False where it has
+// Gives the member of a component, where there is one alone, the first of the words that come before all others and make
+// its conjuncts true, if one does: mostly one does, and then no other candidates are found. Takes no memory.
+fn is_solved_by_ends(
+    members: &[u32],
+    conjuncts: &[Conj],
+    indexes: &[u32],
+    table: &[Node],
+    roots: &mut [u32],
+) -> bool
+    requires forest { IsForest table.now }
+    requires size { length roots.old ≡ length table.now }
+    requires small { length table.now ≤ 65537 }
+    requires inside { All (λ c. All (λ x. x + 1 < length table.now) (mentioned c)) conjuncts.now }
+    requires places { All (λ i. i < length conjuncts.now) indexes.now }
+    requires members { All (λ r. r < length table.now) members.now }
+    requires apart { AreApart members.now }
+    ensures size { length roots.new ≡ length roots.old }
+    ensures others { AgreeOutside members.now (slice_index roots.new) (slice_index roots.old) }
+    ensures yes { result ≡ true → IsSolved table.now conjuncts.now indexes.now (slice_index roots.old) members.now (slice_index roots.new) }
+{
+    members.len() == 1 && search(members, &end_words(), conjuncts, indexes, table, roots)
+}
+
+// Gives the members of a component the first candidates that make its conjuncts true. False where it has
 // more than three members, or no candidates do.
 fn solve(
     alloc: Global,
@@ -36,6 +59,9 @@ fn solve(
 {
     if members.len() > 3 {
         return Ok(false);
+    }
+    if is_solved_by_ends(members, conjuncts, indexes, table, roots) {
+        return Ok(true);
     }
     let values = candidates(alloc, conjuncts, table, indexes)?;
     Ok(search(members, &values, conjuncts, indexes, table, roots))
@@ -110,7 +136,7 @@ fn solve_if_hard(
     solve_home(alloc, conjuncts, table, layout, home, roots)
 }
 
-// Solves the components of hard homes, the least home first. GivesCandidates the first one that fails, or 0.
+// Solves the components of hard homes, the least home first. Gives the first one that fails, or 0.
 pub(crate) fn solve_all(
     alloc: Global,
     conjuncts: &[Conj],

@@ -73,6 +73,9 @@ mutual
     return : Option Expression → Statement
     -- an expression whose value isn't read
     evaluate : Expression → Statement
+    -- a member that isn't known is assigned: the pointer to its block is evaluated, and these parts for their effects; then
+    -- the block is accessed, as for this cell, and nothing is stored
+    access : Expression → Expressions → FieldId → TypeId → Site → Statement
 
   pub data Statements : Type 0 where
     no_statements : Statements

@@ -15,7 +15,7 @@ use Rattle.px_syntax.specs.declared.typed_statement.Place.TheVariants as P
 use Rattle.px_syntax.specs.declared.typed_statement.TypedStatement.{TypedStatement, Row_of-TypedStatement, end_of-TypedStatement, more_of-TypedStatement}
 use Rattle.px_syntax.specs.declared.typed_statement.TypedStatement as S
 use Rattle.px_syntax.specs.declared.typed_statement.Place.{Place as RustPlace}
-use Rattle.px_syntax.specs.TypedTree.{Expression, constant, null, local, negated, arithmetic, truth, cell, allocate, get_char, call, stop, Expressions, no_expressions, an_expression, Arguments, no_arguments, an_argument, Argument, passed, erased, Condition, compare, word, pointer, both, either, opposite, Place, local_place, cell_place, Statement, block, declare, assign, update, run_call, free, input, choose, loop, break, continue, return, evaluate, Statements, no_statements, a_statement, arguments_of}
+use Rattle.px_syntax.specs.TypedTree.{Expression, constant, null, local, negated, arithmetic, truth, cell, allocate, get_char, call, stop, Expressions, no_expressions, an_expression, Arguments, no_arguments, an_argument, Argument, passed, erased, Condition, compare, word, pointer, both, either, opposite, Place, local_place, cell_place, Statement, block, declare, assign, update, run_call, free, input, choose, loop, break, continue, return, evaluate, access, Statements, no_statements, a_statement, expressions_of, arguments_of}
 
 -- an operator and the operand after it
 pub record ArithmeticLinkTree : Type 0 where
@@ -124,6 +124,7 @@ abbrev mutual
   typed_statement S.Continue = continue
   typed_statement (S.Return value) = return (option_map (λ b. typed_expression b.value) value)
   typed_statement (S.Evaluate value) = evaluate (typed_expression value.value)
+  typed_statement (S.Access p parts l) = access (typed_expression p.value) (expressions_of (map typed_expression parts.items)) l.field l.block l.site
 
   -- the statements of a row
   pub typed_rows : {m : _} → Row_of-TypedStatement m → Statements

@@ -1,4 +1,4 @@
-use crate::{Argument, Arithmetic, Condition, TypedExpression};
+use crate::{Argument, Arithmetic, CellLink, Condition, TypedExpression};
 use px_base::{FieldId, ProcId, Site};
 use px_terms::TypeId;
 
@@ -79,5 +79,12 @@ pub enum TypedStatement {
     /// An expression for its effects (C17 6.8.3): its value isn't read, those below it are.
     Evaluate {
         value: Box<TypedExpression>,
+    },
+    /// An assignment to a member that isn't known, of the block that `pointer` points to: the pointer is evaluated, and the
+    /// parts of the value for their effects. Then the block is accessed, as for this cell, and nothing is stored.
+    Access {
+        pointer: Box<TypedExpression>,
+        parts: Vec<TypedExpression>,
+        cell: CellLink,
     },
 }

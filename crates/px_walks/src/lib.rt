@@ -19,5 +19,6 @@ pub use pieces::{OpenLoop, Part, Piece};
 pub use rules::{freed_rule, is_silent, live_rule};
 pub use walk::Walk;
 pub use walking::{
-    act, act_command, act_in, choice_way, copy_walk, is_calling, is_listed, next_item, ways,
+    act, act_command, act_in, choice_way, copy_walk, goes_on, is_calling, is_listed, next_item,
+    ways,
 };

@@ -1,4 +1,4 @@
-ghost use Rattle.std.specs.Prelude.{◌≡◌, [], ◌∷◌, ◌<◌, ◌^◌, is_some, length, List, IfOk, option_map};
+ghost use Rattle.std.specs.Prelude.{◌≡◌, true, [], ◌∷◌, ◌<◌, ◌^◌, is_some, length, List, IfOk, option_map};
 ghost use Rattle.px_core.specs.CommandTree.{command_tree};
 ghost use Rattle.px_core.specs.Control.{Item, Act, AfterHead, acts};
 ghost use Rattle.px_callgraph.specs.JobTree.{job_tree};
@@ -129,6 +129,25 @@ pub fn ways(alloc: Global, job: &Job, walk: &Walk) -> Result<Vec<Way>, NoMemory>
         None => control_ways(alloc, job, &walk.state, &walk.control),
         Some(call) => call_ways(alloc, job, &walk.state, call),
     }
+}
+
+// Whether `On` is the one way on from what is to be done next.
+fn goes_on_from<'a>(job: &Job, state: &State, control: &[Piece<'a>]) -> bool
+    ensures { result ≡ true → spec.item_ways (job_tree job.now) state.now (items_of control.now) ≡ variant.On ∷ [] }
+{
+    let Upcoming::Command(command) = next(control) else {
+        return true;
+    };
+    is_in_place(command, control) && matches!(px_ways::goes_on(job, state, command), Some(true))
+}
+
+/// Whether it is seen without a list that a path has the one way `On`, as it has at most of what is done. Not so within
+/// a call.
+#[tactic(auto, unfolding(px_callgraph::specs::Alternatives::ways))]
+pub fn goes_on(job: &Job, walk: &Walk) -> bool
+    ensures { result ≡ true → spec.ways (job_tree job.now) (walk_of walk.now) ≡ variant.On ∷ [] }
+{
+    walk.call.is_none() && goes_on_from(job, &walk.state, &walk.control)
 }
 
 // Whether a way is listed of what is to be done next.

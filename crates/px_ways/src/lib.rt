@@ -25,4 +25,4 @@ pub use divisions::{lacks_quotient, take_quotient};
 pub use listed::is_listed;
 pub use meetings::{cells_of, meet_freed, meet_live};
 pub use pointers::accessed;
-pub use ways::command_ways;
+pub use ways::{command_ways, goes_on};

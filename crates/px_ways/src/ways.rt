@@ -1,4 +1,4 @@
-ghost use Rattle.std.specs.Prelude.{◌≡◌, ◌<◌, ◌^◌, [], ◌∷◌, ◌++◌, length, slice_get, Option, is_some, IfOk};
+ghost use Rattle.std.specs.Prelude.{◌≡◌, ◌<◌, ◌^◌, [], ◌∷◌, ◌++◌, length, slice_get, Option, is_some, IfOk, IfSome};
 ghost use Rattle.std.specs.Option.{option_copied};
 ghost use Rattle.std.specs.List.{list_all};
 ghost use Rattle.px_core.specs.CommandTree.{command_tree};
@@ -29,6 +29,22 @@ use px_match::{
 };
 use px_terms::{BlockType, Content, NoMemory, Place, TypeId, ValueType, Var, VarInfo};
 use std::alloc::Global;
+
+/// Whether a path goes on by a command that has this one way at most; none of the other commands. No list is made.
+#[tactic(auto, using(px_core::proofs::CommandEquations::trees))]
+pub fn goes_on(job: &Job, state: &State, command: &Command) -> Option<bool>
+    ensures { IfSome result (λ yes. spec.command_ways (job_tree job.now) state.now (command_tree command.now) ≡ listed_if yes way.On) }
+{
+    match command {
+        Command::Assign { op, a, b, .. } => Some(is_operation(state, *op, *a, *b)),
+        Command::Unset { .. } | Command::Loop { .. } | Command::Input { .. } => Some(true),
+        Command::If { slot, .. } => Some(has_outcome(slot_content(state.slots.as_slice(), *slot))),
+        Command::Leave | Command::Break | Command::Continue => Some(is_in_loop(state)),
+        Command::Call { arguments, .. } => Some(are_arguments(state, arguments)),
+        Command::Return { from } => Some(returns(state, job.body.result, *from)),
+        _ => None,
+    }
+}
 
 /// The ways on from a state by a command, by name and in order. None where the command doesn't fit the state.
 #[tactic(auto, using(px_core::proofs::CommandEquations::trees))]

@@ -34,7 +34,7 @@ struct Word<'a> {
 ///
 /// Statements: `block.N`; `declare.L` and `begin.L`, which has a value; `set.L`; `put.F.T` of a pointer and a value; `increase.L`;
 /// `run.P.N`; `free.T`; `read`; `if`, with both sides; `while`; `for`, whose step stands last; `ever`, without a condition;
-/// `break`; `continue`; `return`; `give`; `evaluate`.
+/// `break`; `continue`; `return`; `give`; `evaluate`; `access.F.T.N` of a pointer and N parts, at the field F of a block of type T.
 pub fn statement(alloc: Global, line: u32, text: &str) -> Result<TypedStatement> {
     let mut reading = Reading {
         expressions: Vec::new(alloc),
@@ -289,6 +289,11 @@ fn statement_of(alloc: Global, word: &Word, reading: &mut Reading) -> Result<Typ
             proc: ProcId(number_at(word, 0)?),
             arguments: last(&mut reading.expressions, number_at(word, 1)?)?,
             site: word.site,
+        }),
+        "access" => Ok(TypedStatement::Access {
+            parts: parts(alloc, reading, number_at(word, 2)?)?,
+            pointer: boxed(alloc, reading)?,
+            cell: cell(word)?,
         }),
         "if" | "while" | "for" | "ever" => control(alloc, word, reading),
         _ => of_value(alloc, word, reading),

@@ -6,8 +6,8 @@ use Rattle.px_check.proofs.taken.take_step.Goals as goal
 
 pub call_step-requires : goal.call_step-requires
 call_step-requires c =
-    next_call (job_tree c.args.job.now) (walk_of c.args.walk) c.args.next c.requires.0 c.requires.1 c.is_call.result (c.is_call.ensures c.requires.0) ∙ c.if-is_call.true
+    next_call (job_tree c.args.job.now) (walk_of c.args.walk.now) c.args.next c.requires.0 c.requires.1 c.is_call.result (c.is_call.ensures c.requires.0) ∙ c.if-is_call.true
 
 pub named_step-requires-clause-other : goal.named_step-requires-clause-other
 named_step-requires-clause-other c =
-    next_call (job_tree c.args.job.now) (walk_of c.args.walk) c.args.next c.requires.0 c.requires.1 c.is_call.result (c.is_call.ensures c.requires.0) ∙ c.if-is_call.false
+    next_call (job_tree c.args.job.now) (walk_of c.args.walk.now) c.args.next c.requires.0 c.requires.1 c.is_call.result (c.is_call.ensures c.requires.0) ∙ c.if-is_call.false

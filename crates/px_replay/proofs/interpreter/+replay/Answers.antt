@@ -1,14 +1,14 @@
 use Rattle.std.proofs.Common.{◌≡◌, ◌∙◌, List, [], ◌∷◌, ◌++◌, append-nil, refl, ap, map, drop, sym, subst, Ok, Err, Vec, Global, ap₂, true, false, Bool, ◌-◌, ◌<◌, arith, get_or, rules, ◌+◌, option_map}
 use Rattle.std.proofs.lemmas.Result.{err_from_is_err_and}
 use Rattle.px_meaning.specs.Values.{Value, Unwritten}
-use Rattle.px_syntax.specs.TypedTree.{expressions_of, arguments_of, no_arguments, an_argument, no_expressions, an_expression, stop, evaluate, statements_of, Statement, run_call, free, choose, arithmetic, cell, call, compare, both, either, negated, truth, word, pointer, opposite, block, assign, update, loop}
+use Rattle.px_syntax.specs.TypedTree.{expressions_of, arguments_of, no_arguments, an_argument, no_expressions, an_expression, stop, evaluate, statements_of, Statement, run_call, free, access, choose, arithmetic, cell, call, compare, both, either, negated, truth, word, pointer, opposite, block, assign, update, loop}
 use Rattle.px_syntax.specs.TypedViews.{typed_expression, typed_argument, typed_statement, typed_condition, typed_place, arithmetic_link, relation_link, calculated, compared, cells, all_of, any_of}
 use Rattle.px_replay.specs.declared.flow.Flow.{Flow}
 use Rattle.px_replay.specs.Script.{plain_script, UnlessMemory, and_then, answers}
 use Rattle.px_replay.specs.Interpreted.{types_in, calls_of, given, given_these, ended}
 use Rattle.px_replay.specs.Locals.{locals_map}
 use Rattle.px_replay.specs.ChainReplay.{onto, chained, loads_link, calculates_link, compares_link, and_link, or_link}
-use Rattle.px_replay.specs.TreeReplay.{ReplaysAll, PassesAll, reaches, ReplaysStatements, ReplaysStatement, Checks, assigns, updates, CallsReplay, returned, Replays, on_fall, loops, checks_if, on_turn}
+use Rattle.px_replay.specs.TreeReplay.{ReplaysAll, PassesAll, reaches, ReplaysStatements, ReplaysStatement, Checks, assigns, updates, CallsReplay, returned, Replays, on_fall, loops, checks_if, on_turn, accesses}
 use Rattle.px_replay.proofs.ActLemmas.{ended_by, ended_surely, surely, unless}
 use Rattle.px_replay.proofs.ListLemmas.{passed_stops, passed_goes, erased_done, arguments_more, arguments_stop, arguments_end, onto_none, statements_more, statements_stop, statements_end, ends_list}
 use Rattle.std.specs.Prelude.{⊤}
@@ -120,8 +120,7 @@ effect-returns-in_ok-call-in-Call t c =
 
 pub effect-returns-in_err-expression-in_default : goal.effect-returns-in_err-expression-in_default
 effect-returns-in_err-expression-in_default t c =
-    let types = types_in c.args.callees.now in let calls = calls_of c.args.callees.now in let locals = locals_map c.args.locals.now in let s0 = plain_script c.args.script.now in let s1 = plain_script c.expression.new.script in let d = c.in_err-expression-in_default.field-0.0 in ended_by Value ⊤ (λ s r s'. PassesAll types calls (an_expression (typed_expression c.args.e.now) no_expressions) locals s r s') s0 s1 c.from_residual-in_err-expression-in_default.result d (err_from_is_err_and c.from_residual-in_err-expression-in_default.result c.from_residual-in_err-expression-in_default.ensures.1)
-    (λ h. passes_plain types calls c.args.e.now c.in_default.not-Local c.in_default.not-Cell c.in_default.not-Call locals s0 (Err d) s1 (Err d, s1, h, (refl, refl))) c.in_err-expression-in_default.ensures
+    let types = types_in c.args.callees.now in let calls = calls_of c.args.callees.now in let locals = locals_map c.args.locals.now in let s0 = plain_script c.args.script.now in let s1 = plain_script c.expression.new.script in let d = c.in_err-expression-in_default.field-0.0 in ended_by Value ⊤ (λ s r s'. PassesAll types calls (an_expression (typed_expression c.args.e.now) no_expressions) locals s r s') s0 s1 c.from_residual-in_err-expression-in_default.result d (err_from_is_err_and c.from_residual-in_err-expression-in_default.result c.from_residual-in_err-expression-in_default.ensures.1) (λ h. passes_plain types calls c.args.e.now c.in_default.not-Local c.in_default.not-Cell c.in_default.not-Call locals s0 (Err d) s1 (Err d, s1, h, (refl, refl))) c.in_err-expression-in_default.ensures
 
 pub effect-returns-in_ok-expression-in_default : goal.effect-returns-in_ok-expression-in_default
 effect-returns-in_ok-expression-in_default t c =
@@ -142,8 +141,7 @@ effect-expression-requires t c = (falls c.args.callees.now _ _ t c.decreases (om
 pub statement-returns-in_err-effect-in-Evaluate : goal.statement-returns-in_err-effect-in-Evaluate
 statement-returns-in_err-effect-in-Evaluate t c =
     let types = types_in c.args.callees.now in let calls = calls_of c.args.callees.now in let n = c.args.callees.now.depth in let l0 = locals_map c.args.locals.now in let s0 = plain_script c.args.script.now in let s1 = plain_script c.effect.new.script in let d = c.in_err-effect-in-Evaluate.field-0.0 in
-    let eq : typed_statement c.args.s.now ≡ evaluate (typed_expression c.deref-in-Evaluate.result.now) = ap typed_statement c.in-Evaluate.is ∙ sym (ap (λ e. evaluate (typed_expression e)) c.deref-in-Evaluate.ensures) in ended_by ⊤ Flow (λ s r s'. ReplaysStatement types calls n (typed_statement c.args.s.now) l0 s (ended r l0) s') s0 s1 c.from_residual-in_err-effect-in-Evaluate.result d (err_from_is_err_and c.from_residual-in_err-effect-in-Evaluate.result c.from_residual-in_err-effect-in-Evaluate.ensures.1)
-    (λ h. subst (λ t. ReplaysStatement types calls n t l0 s0 (Err d) s1) (sym eq) (Err d, s1, h, (refl, refl))) c.in_err-effect-in-Evaluate.ensures
+    let eq : typed_statement c.args.s.now ≡ evaluate (typed_expression c.deref-in-Evaluate.result.now) = ap typed_statement c.in-Evaluate.is ∙ sym (ap (λ e. evaluate (typed_expression e)) c.deref-in-Evaluate.ensures) in ended_by ⊤ Flow (λ s r s'. ReplaysStatement types calls n (typed_statement c.args.s.now) l0 s (ended r l0) s') s0 s1 c.from_residual-in_err-effect-in-Evaluate.result d (err_from_is_err_and c.from_residual-in_err-effect-in-Evaluate.result c.from_residual-in_err-effect-in-Evaluate.ensures.1) (λ h. subst (λ t. ReplaysStatement types calls n t l0 s0 (Err d) s1) (sym eq) (Err d, s1, h, (refl, refl))) c.in_err-effect-in-Evaluate.ensures
 
 pub statement-returns-in_ok-effect-in-Evaluate : goal.statement-returns-in_ok-effect-in-Evaluate
 statement-returns-in_ok-effect-in-Evaluate t c =
@@ -154,29 +152,23 @@ statement-effect-requires t c = let h = ap statement_size (ap typed_statement c.
 
 pub assignment-returns-in_err-value-in-Cell : goal.assignment-returns-in_err-value-in-Cell
 assignment-returns-in_err-value-in-Cell t c =
-    let types = types_in c.args.callees.now in let calls = calls_of c.args.callees.now in let l0 = locals_map c.args.locals.now in let s0 = plain_script c.args.script.now in let d = c.in_err-value-in-Cell.field-0.0 in let t = typed_expression c.args.e.now in let eq : typed_place c.args.place.now ≡ tree.cell_place (typed_expression c.deref.result.now) c.in-Cell.field c.in-Cell.block c.in-Cell.site =
-    ap typed_place c.in-Cell.is ∙ sym (ap (λ e. tree.cell_place (typed_expression e) c.in-Cell.field c.in-Cell.block c.in-Cell.site) c.deref.ensures) in
-    let s1 = plain_script c.expression-in-Cell.new.script in let s2 = plain_script c.expression-in-Cell-2.new.script in ended_by Value Flow (λ s r s'. assigns types calls (typed_place c.args.place.now) t l0 s (ended r l0) s') s0 s2 c.from_residual-in_err-value-in-Cell.result d (err_from_is_err_and c.from_residual-in_err-value-in-Cell.result c.from_residual-in_err-value-in-Cell.ensures.1)
-    (λ h. subst (λ p. assigns types calls p t l0 s0 (Err d) s2) (sym eq) (Ok c.in_ok-at-in-Cell.at, s1, c.in_ok-at-in-Cell.ensures, (Err d, s2, h, (refl, refl)))) c.in_err-value-in-Cell.ensures
+    let types = types_in c.args.callees.now in let calls = calls_of c.args.callees.now in let l0 = locals_map c.args.locals.now in let s0 = plain_script c.args.script.now in let d = c.in_err-value-in-Cell.field-0.0 in let t = typed_expression c.args.e.now in let eq : typed_place c.args.place.now ≡ tree.cell_place (typed_expression c.deref.result.now) c.in-Cell.field c.in-Cell.block c.in-Cell.site = ap typed_place c.in-Cell.is ∙ sym (ap (λ e. tree.cell_place (typed_expression e) c.in-Cell.field c.in-Cell.block c.in-Cell.site) c.deref.ensures) in
+    let s1 = plain_script c.expression-in-Cell.new.script in let s2 = plain_script c.expression-in-Cell-2.new.script in ended_by Value Flow (λ s r s'. assigns types calls (typed_place c.args.place.now) t l0 s (ended r l0) s') s0 s2 c.from_residual-in_err-value-in-Cell.result d (err_from_is_err_and c.from_residual-in_err-value-in-Cell.result c.from_residual-in_err-value-in-Cell.ensures.1) (λ h. subst (λ p. assigns types calls p t l0 s0 (Err d) s2) (sym eq) (Ok c.in_ok-at-in-Cell.at, s1, c.in_ok-at-in-Cell.ensures, (Err d, s2, h, (refl, refl)))) c.in_err-value-in-Cell.ensures
 
 pub assignment-returns-in_err-store-in-Cell : goal.assignment-returns-in_err-store-in-Cell
 assignment-returns-in_err-store-in-Cell t c =
-    let types = types_in c.args.callees.now in let calls = calls_of c.args.callees.now in let l0 = locals_map c.args.locals.now in let s0 = plain_script c.args.script.now in let d = c.in_err-store-in-Cell.field-0.0 in let s3 = plain_script c.store.new.script in let t = typed_expression c.args.e.now in let eq : typed_place c.args.place.now ≡ tree.cell_place (typed_expression c.deref.result.now) c.in-Cell.field c.in-Cell.block c.in-Cell.site =
-    ap typed_place c.in-Cell.is ∙ sym (ap (λ e. tree.cell_place (typed_expression e) c.in-Cell.field c.in-Cell.block c.in-Cell.site) c.deref.ensures) in
-    let s1 = plain_script c.expression-in-Cell.new.script in let s2 = plain_script c.expression-in-Cell-2.new.script in ended_by ⊤ Flow (λ s r s'. assigns types calls (typed_place c.args.place.now) t l0 s (ended r l0) s') s0 s3 c.from_residual-in_err-store-in-Cell.result d (err_from_is_err_and c.from_residual-in_err-store-in-Cell.result c.from_residual-in_err-store-in-Cell.ensures.1)
-    (λ h. subst (λ p. assigns types calls p t l0 s0 (Err d) s3) (sym eq) (Ok c.in_ok-at-in-Cell.at, s1, c.in_ok-at-in-Cell.ensures, (Ok c.in_ok-value-in-Cell.value, s2, c.in_ok-value-in-Cell.ensures, h l0))) c.in_err-store-in-Cell.ensures
+    let types = types_in c.args.callees.now in let calls = calls_of c.args.callees.now in let l0 = locals_map c.args.locals.now in let s0 = plain_script c.args.script.now in let d = c.in_err-store-in-Cell.field-0.0 in let s3 = plain_script c.store.new.script in let t = typed_expression c.args.e.now in let eq : typed_place c.args.place.now ≡ tree.cell_place (typed_expression c.deref.result.now) c.in-Cell.field c.in-Cell.block c.in-Cell.site = ap typed_place c.in-Cell.is ∙ sym (ap (λ e. tree.cell_place (typed_expression e) c.in-Cell.field c.in-Cell.block c.in-Cell.site) c.deref.ensures) in
+    let s1 = plain_script c.expression-in-Cell.new.script in let s2 = plain_script c.expression-in-Cell-2.new.script in ended_by ⊤ Flow (λ s r s'. assigns types calls (typed_place c.args.place.now) t l0 s (ended r l0) s') s0 s3 c.from_residual-in_err-store-in-Cell.result d (err_from_is_err_and c.from_residual-in_err-store-in-Cell.result c.from_residual-in_err-store-in-Cell.ensures.1) (λ h. subst (λ p. assigns types calls p t l0 s0 (Err d) s3) (sym eq) (Ok c.in_ok-at-in-Cell.at, s1, c.in_ok-at-in-Cell.ensures, (Ok c.in_ok-value-in-Cell.value, s2, c.in_ok-value-in-Cell.ensures, h l0))) c.in_err-store-in-Cell.ensures
 
 pub assignment-returns-in_ok-store-in-Cell : goal.assignment-returns-in_ok-store-in-Cell
 assignment-returns-in_ok-store-in-Cell t c =
-    let types = types_in c.args.callees.now in let calls = calls_of c.args.callees.now in let l0 = locals_map c.args.locals.now in let s0 = plain_script c.args.script.now in let s3 = plain_script c.store.new.script in let t = typed_expression c.args.e.now in let eq : typed_place c.args.place.now ≡ tree.cell_place (typed_expression c.deref.result.now) c.in-Cell.field c.in-Cell.block c.in-Cell.site =
-    ap typed_place c.in-Cell.is ∙ sym (ap (λ e. tree.cell_place (typed_expression e) c.in-Cell.field c.in-Cell.block c.in-Cell.site) c.deref.ensures) in
+    let types = types_in c.args.callees.now in let calls = calls_of c.args.callees.now in let l0 = locals_map c.args.locals.now in let s0 = plain_script c.args.script.now in let s3 = plain_script c.store.new.script in let t = typed_expression c.args.e.now in let eq : typed_place c.args.place.now ≡ tree.cell_place (typed_expression c.deref.result.now) c.in-Cell.field c.in-Cell.block c.in-Cell.site = ap typed_place c.in-Cell.is ∙ sym (ap (λ e. tree.cell_place (typed_expression e) c.in-Cell.field c.in-Cell.block c.in-Cell.site) c.deref.ensures) in
     let s1 = plain_script c.expression-in-Cell.new.script in let s2 = plain_script c.expression-in-Cell-2.new.script in subst (λ p. assigns types calls p t l0 s0 (Ok (Falls, l0)) s3) (sym eq) (Ok c.in_ok-at-in-Cell.at, s1, c.in_ok-at-in-Cell.ensures, (Ok c.in_ok-value-in-Cell.value, s2, c.in_ok-value-in-Cell.ensures, c.in_ok-store-in-Cell.ensures l0))
 
 pub body-returns-in_err-statement : goal.body-returns-in_err-statement
 body-returns-in_err-statement t c =
     let callees = c.args.callees.now in let P = typed_program (program_tree callees.program.now) in let s0 = plain_script c.args.script.now in let s1 = plain_script c.statement.new.script in let d = c.in_err-statement.field-0.0 in let p = c.in-Some.procedure.now in let some : 0 < callees.depth = omega (arith, c.if-callees-eq0.false) in let is = got procedure_tree callees.program.now.procedures c.args.proc.0 p (sym c.get.ensures ∙ ap option_copied c.in-Some.is) in
-    ended_by Flow Value (λ s r s'. calls_of callees c.args.proc.0 c.args.arguments.items s r s') s0 s1 c.from_residual.result d (err_from_is_err_and c.from_residual.result c.from_residual.ensures.1)
-    (λ h. body_at P callees.depth c.args.proc.0 c.args.arguments.items s0 (Err d) s1 (procedure_tree p) some is
+    ended_by Flow Value (λ s r s'. calls_of callees c.args.proc.0 c.args.arguments.items s r s') s0 s1 c.from_residual.result d (err_from_is_err_and c.from_residual.result c.from_residual.ensures.1) (λ h. body_at P callees.depth c.args.proc.0 c.args.arguments.items s0 (Err d) s1 (procedure_tree p) some is
     (Err d, s1, subst (λ l. ReplaysStatement P.types (CallsReplay P (callees.depth - 1)) (callees.depth - 1) (typed_statement p.body.statement) l s0 (Err d) s1) c.new-locals.ensures h, (refl, refl))) c.in_err-statement.ensures
 
 pub body-returns-in-Falls : goal.body-returns-in-Falls
@@ -298,15 +290,13 @@ comparisons-returns-in_err-compare t c =
 
 pub condition-returns-in_err-x-in-Compare : goal.condition-returns-in_err-x-in-Compare
 condition-returns-in_err-x-in-Compare t c =
-    let types = types_in c.args.callees.now in let calls = calls_of c.args.callees.now in let locals = locals_map c.args.locals.now in let s0 = plain_script c.args.script.now in let s1 = plain_script c.comparisons.new.script in let d = c.in_err-x-in-Compare.field-0.0 in let eq : typed_condition c.args.c.now ≡ compare c.in-Compare.relation (compared (typed_expression c.deref.result.now) (map relation_link c.deref-in-Compare.result.now)) (typed_expression c.in-Compare.right.value) c.in-Compare.site =
-    compare_seen c.args.c.now c.deref.result.now (c.in-Compare.right.value) c.deref-in-Compare.result.now c.in-Compare.first c.in-Compare.before c.in-Compare.relation c.in-Compare.right c.in-Compare.site
+    let types = types_in c.args.callees.now in let calls = calls_of c.args.callees.now in let locals = locals_map c.args.locals.now in let s0 = plain_script c.args.script.now in let s1 = plain_script c.comparisons.new.script in let d = c.in_err-x-in-Compare.field-0.0 in let eq : typed_condition c.args.c.now ≡ compare c.in-Compare.relation (compared (typed_expression c.deref.result.now) (map relation_link c.deref-in-Compare.result.now)) (typed_expression c.in-Compare.right.value) c.in-Compare.site = compare_seen c.args.c.now c.deref.result.now (c.in-Compare.right.value) c.deref-in-Compare.result.now c.in-Compare.first c.in-Compare.before c.in-Compare.relation c.in-Compare.right c.in-Compare.site
     c.in-Compare.is c.deref.ensures c.deref-in-Compare.ensures.value refl in
     ended_by Value Bool (λ s r s'. Checks types calls (typed_condition c.args.c.now) locals s r s') s0 s1 c.from_residual.result d (err_from_is_err_and c.from_residual.result c.from_residual.ensures.1) (λ h. subst (λ e. Checks types calls e locals s0 (Err d) s1) (sym eq) (Err d, s1, h, (refl, refl))) c.in_err-x-in-Compare.ensures
 
 pub condition-returns-in_err-y-in-Compare : goal.condition-returns-in_err-y-in-Compare
 condition-returns-in_err-y-in-Compare t c =
-    let types = types_in c.args.callees.now in let calls = calls_of c.args.callees.now in let locals = locals_map c.args.locals.now in let s0 = plain_script c.args.script.now in let s1 = plain_script c.expression.new.script in let d = c.in_err-y-in-Compare.field-0.0 in let sx = plain_script c.comparisons.new.script in let eq : typed_condition c.args.c.now ≡ compare c.in-Compare.relation (compared (typed_expression c.deref.result.now) (map relation_link c.deref-in-Compare.result.now)) (typed_expression c.deref-in-Compare-2.result.now) c.in-Compare.site =
-    compare_seen c.args.c.now c.deref.result.now (c.deref-in-Compare-2.result.now) c.deref-in-Compare.result.now c.in-Compare.first c.in-Compare.before c.in-Compare.relation c.in-Compare.right c.in-Compare.site
+    let types = types_in c.args.callees.now in let calls = calls_of c.args.callees.now in let locals = locals_map c.args.locals.now in let s0 = plain_script c.args.script.now in let s1 = plain_script c.expression.new.script in let d = c.in_err-y-in-Compare.field-0.0 in let sx = plain_script c.comparisons.new.script in let eq : typed_condition c.args.c.now ≡ compare c.in-Compare.relation (compared (typed_expression c.deref.result.now) (map relation_link c.deref-in-Compare.result.now)) (typed_expression c.deref-in-Compare-2.result.now) c.in-Compare.site = compare_seen c.args.c.now c.deref.result.now (c.deref-in-Compare-2.result.now) c.deref-in-Compare.result.now c.in-Compare.first c.in-Compare.before c.in-Compare.relation c.in-Compare.right c.in-Compare.site
     c.in-Compare.is c.deref.ensures c.deref-in-Compare.ensures.value c.deref-in-Compare-2.ensures in
     ended_by Value Bool (λ s r s'. Checks types calls (typed_condition c.args.c.now) locals s r s') s0 s1 c.from_residual-in_err-y-in-Compare.result d (err_from_is_err_and c.from_residual-in_err-y-in-Compare.result c.from_residual-in_err-y-in-Compare.ensures.1) (λ h. subst (λ e. Checks types calls e locals s0 (Err d) s1) (sym eq) (Ok c.in_ok-x-in-Compare.x, sx, c.in_ok-x-in-Compare.ensures, (Err d, s1, h, (refl, refl)))) c.in_err-y-in-Compare.ensures
 
@@ -461,8 +451,7 @@ pub expression-returns-in_err-value-in-Call : goal.expression-returns-in_err-val
 expression-returns-in_err-value-in-Call t c =
     let types = types_in c.args.callees.now in let calls = calls_of c.args.callees.now in let locals = locals_map c.args.locals.now in let s0 = plain_script c.args.script.now in let s1 = plain_script c.call.new.script in let d = c.in_err-value-in-Call.field-0.0 in let sx = plain_script c.arguments.new.script in let eq : typed_expression c.args.e.now ≡ call c.in-Call.proc (arguments_of (map typed_argument c.deref-in-Call.result.now)) c.in-Call.result c.in-Call.site =
     call_seen c.args.e.now c.deref-in-Call.result.now c.in-Call.proc c.in-Call.es c.in-Call.result c.in-Call.site c.in-Call.is c.deref-in-Call.ensures.value in
-    ended_by Value Value (λ s r s'. Replays types calls (typed_expression c.args.e.now) locals s r s') s0 s1 c.from_residual-in_err-value-in-Call.result d (err_from_is_err_and c.from_residual-in_err-value-in-Call.result c.from_residual-in_err-value-in-Call.ensures.1)
-    (λ h. subst (λ e. Replays types calls e locals s0 (Err d) s1) (sym eq) (Ok c.in_ok-values-in-Call.values.items, sx, c.in_ok-values-in-Call.ensures, (Err d, s1, h, (refl, refl)))) c.in_err-value-in-Call.ensures
+    ended_by Value Value (λ s r s'. Replays types calls (typed_expression c.args.e.now) locals s r s') s0 s1 c.from_residual-in_err-value-in-Call.result d (err_from_is_err_and c.from_residual-in_err-value-in-Call.result c.from_residual-in_err-value-in-Call.ensures.1) (λ h. subst (λ e. Replays types calls e locals s0 (Err d) s1) (sym eq) (Ok c.in_ok-values-in-Call.values.items, sx, c.in_ok-values-in-Call.ensures, (Err d, s1, h, (refl, refl)))) c.in_err-value-in-Call.ensures
 
 pub expression-returns-in_ok-value-in-Call : goal.expression-returns-in_ok-value-in-Call
 expression-returns-in_ok-value-in-Call t c =
@@ -475,15 +464,13 @@ pub statement-returns-in_err-values-in-Call : goal.statement-returns-in_err-valu
 statement-returns-in_err-values-in-Call t c =
     let types = types_in c.args.callees.now in let calls = calls_of c.args.callees.now in let n = c.args.callees.now.depth in let l0 = locals_map c.args.locals.now in let s0 = plain_script c.args.script.now in let s1 = plain_script c.arguments.new.script in let d = c.in_err-values-in-Call.field-0.0 in let eq : typed_statement c.args.s.now ≡ run_call c.in-Call.proc (arguments_of (map typed_argument c.deref-in-Call.result.now)) c.in-Call.site =
     ap typed_statement c.in-Call.is ∙ sym (ap (λ ls. run_call c.in-Call.proc (arguments_of (map typed_argument ls)) c.in-Call.site) c.deref-in-Call.ensures.value) in
-    ended_by (Vec Value Global) Flow (λ s r s'. ReplaysStatement types calls n (typed_statement c.args.s.now) l0 s (ended r l0) s') s0 s1 c.from_residual.result d (err_from_is_err_and c.from_residual.result c.from_residual.ensures.1)
-    (λ h. subst (λ t. ReplaysStatement types calls n t l0 s0 (Err d) s1) (sym eq) (Err d, s1, h, (refl, refl))) c.in_err-values-in-Call.ensures
+    ended_by (Vec Value Global) Flow (λ s r s'. ReplaysStatement types calls n (typed_statement c.args.s.now) l0 s (ended r l0) s') s0 s1 c.from_residual.result d (err_from_is_err_and c.from_residual.result c.from_residual.ensures.1) (λ h. subst (λ t. ReplaysStatement types calls n t l0 s0 (Err d) s1) (sym eq) (Err d, s1, h, (refl, refl))) c.in_err-values-in-Call.ensures
 
 pub statement-returns-in_err-call-in-Call : goal.statement-returns-in_err-call-in-Call
 statement-returns-in_err-call-in-Call t c =
     let types = types_in c.args.callees.now in let calls = calls_of c.args.callees.now in let n = c.args.callees.now.depth in let l0 = locals_map c.args.locals.now in let s0 = plain_script c.args.script.now in let s1 = plain_script c.arguments.new.script in let s2 = plain_script c.call.new.script in let d = c.in_err-call-in-Call.field-0.0 in let eq : typed_statement c.args.s.now ≡ run_call c.in-Call.proc (arguments_of (map typed_argument c.deref-in-Call.result.now)) c.in-Call.site =
     ap typed_statement c.in-Call.is ∙ sym (ap (λ ls. run_call c.in-Call.proc (arguments_of (map typed_argument ls)) c.in-Call.site) c.deref-in-Call.ensures.value) in
-    ended_by Value Flow (λ s r s'. ReplaysStatement types calls n (typed_statement c.args.s.now) l0 s (ended r l0) s') s0 s2 c.from_residual-in_err-call-in-Call.result d (err_from_is_err_and c.from_residual-in_err-call-in-Call.result c.from_residual-in_err-call-in-Call.ensures.1)
-    (λ h. subst (λ t. ReplaysStatement types calls n t l0 s0 (Err d) s2) (sym eq) (Ok c.in_ok-values-in-Call.values.items, s1, c.in_ok-values-in-Call.ensures, (Err d, s2, h, (refl, refl)))) c.in_err-call-in-Call.ensures
+    ended_by Value Flow (λ s r s'. ReplaysStatement types calls n (typed_statement c.args.s.now) l0 s (ended r l0) s') s0 s2 c.from_residual-in_err-call-in-Call.result d (err_from_is_err_and c.from_residual-in_err-call-in-Call.result c.from_residual-in_err-call-in-Call.ensures.1) (λ h. subst (λ t. ReplaysStatement types calls n t l0 s0 (Err d) s2) (sym eq) (Ok c.in_ok-values-in-Call.values.items, s1, c.in_ok-values-in-Call.ensures, (Err d, s2, h, (refl, refl)))) c.in_err-call-in-Call.ensures
 
 pub statement-returns-in_ok-call-in-Call : goal.statement-returns-in_ok-call-in-Call
 statement-returns-in_ok-call-in-Call t c =
@@ -496,8 +483,7 @@ pub statement-returns-in_err-free-in-Free : goal.statement-returns-in_err-free-i
 statement-returns-in_err-free-in-Free t c =
     let types = types_in c.args.callees.now in let calls = calls_of c.args.callees.now in let n = c.args.callees.now.depth in let l0 = locals_map c.args.locals.now in let s0 = plain_script c.args.script.now in let d = c.in_err-free-in-Free.field-0.0 in let eq : typed_statement c.args.s.now ≡ free (typed_expression c.deref-in-Free.result.now) c.in-Free.block c.in-Free.site =
     ap typed_statement c.in-Free.is ∙ sym (ap (λ e. free (typed_expression e) c.in-Free.block c.in-Free.site) c.deref-in-Free.ensures) in
-    let s1 = plain_script c.expression.new.script in let s2 = plain_script c.free.new.script in ended_by ⊤ Flow (λ s r s'. ReplaysStatement types calls n (typed_statement c.args.s.now) l0 s (ended r l0) s') s0 s2 c.from_residual-in_err-free-in-Free.result d (err_from_is_err_and c.from_residual-in_err-free-in-Free.result c.from_residual-in_err-free-in-Free.ensures.1)
-    (λ h. subst (λ t. ReplaysStatement types calls n t l0 s0 (Err d) s2) (sym eq) (Ok c.in_ok-at-in-Free.at, s1, c.in_ok-at-in-Free.ensures, h l0)) c.in_err-free-in-Free.ensures
+    let s1 = plain_script c.expression.new.script in let s2 = plain_script c.free.new.script in ended_by ⊤ Flow (λ s r s'. ReplaysStatement types calls n (typed_statement c.args.s.now) l0 s (ended r l0) s') s0 s2 c.from_residual-in_err-free-in-Free.result d (err_from_is_err_and c.from_residual-in_err-free-in-Free.result c.from_residual-in_err-free-in-Free.ensures.1) (λ h. subst (λ t. ReplaysStatement types calls n t l0 s0 (Err d) s2) (sym eq) (Ok c.in_ok-at-in-Free.at, s1, c.in_ok-at-in-Free.ensures, h l0)) c.in_err-free-in-Free.ensures
 
 pub statement-returns-in_ok-free-in-Free : goal.statement-returns-in_ok-free-in-Free
 statement-returns-in_ok-free-in-Free t c =
@@ -542,8 +528,7 @@ statements-returns-in_default t c =
 pub turns-returns-in_err-goes_on : goal.turns-returns-in_err-goes_on
 turns-returns-in_err-goes_on t c =
     let types = types_in c.args.callees.now in let calls = calls_of c.args.callees.now in let n = c.args.callees.now.depth in let site = c.args.site in let test = option_map (λ b. typed_condition b.value) c.args.c.now in let inner = ReplaysStatement types calls n (typed_statement c.args.inner.now) in let step = ReplaysStatement types calls n (typed_statement c.args.step.now) in let k = c.loop.counter in let m = n - (k + 1) in
-    let l0 = locals_map c.args.locals.now in let l = locals_map c.loop.locals in let s0 = plain_script c.args.script.now in let s = plain_script c.loop.script in let s1 = plain_script c.goes_on.new.script in let d = c.in_err-goes_on.field-0.0 in ended_by Bool Flow (λ s r s'. loops types calls n site test inner step l0 s (ended r l) s') s0 s1 c.from_residual.result d (err_from_is_err_and c.from_residual.result c.from_residual.ensures.1)
-    (λ h. c.loop.invariant (Err d) s1 (next_turn types calls site test inner step n k l s (Err d) s1 c.loop-test.true (Err d, s1, h, (refl, refl)))) c.in_err-goes_on.ensures
+    let l0 = locals_map c.args.locals.now in let l = locals_map c.loop.locals in let s0 = plain_script c.args.script.now in let s = plain_script c.loop.script in let s1 = plain_script c.goes_on.new.script in let d = c.in_err-goes_on.field-0.0 in ended_by Bool Flow (λ s r s'. loops types calls n site test inner step l0 s (ended r l) s') s0 s1 c.from_residual.result d (err_from_is_err_and c.from_residual.result c.from_residual.ensures.1) (λ h. c.loop.invariant (Err d) s1 (next_turn types calls site test inner step n k l s (Err d) s1 c.loop-test.true (Err d, s1, h, (refl, refl)))) c.in_err-goes_on.ensures
 
 pub turns-returns-then-not-branch : goal.turns-returns-then-not-branch
 turns-returns-then-not-branch t c =
@@ -566,8 +551,7 @@ turns-returns-in_err-mark-2 t c =
 pub turns-returns-in_err-statement : goal.turns-returns-in_err-statement
 turns-returns-in_err-statement t c =
     let types = types_in c.args.callees.now in let calls = calls_of c.args.callees.now in let n = c.args.callees.now.depth in let site = c.args.site in let test = option_map (λ b. typed_condition b.value) c.args.c.now in let inner = ReplaysStatement types calls n (typed_statement c.args.inner.now) in let step = ReplaysStatement types calls n (typed_statement c.args.step.now) in let k = c.loop.counter in let m = n - (k + 1) in
-    let l0 = locals_map c.args.locals.now in let l = locals_map c.loop.locals in let s0 = plain_script c.args.script.now in let s = plain_script c.loop.script in let s1 = plain_script c.goes_on.new.script in let d = c.in_err-statement.field-0.0 in let l1 = locals_map c.statement.new.locals in let s3 = plain_script c.statement.new.script in ended_by Flow Flow (λ s r s'. loops types calls n site test inner step l0 s (ended r l1) s') s0 s3 c.from_residual-in_err-statement.result d (err_from_is_err_and c.from_residual-in_err-statement.result c.from_residual-in_err-statement.ensures.1)
-    (λ h. c.loop.invariant (Err d) s3 (next_turn types calls site test inner step n k l s (Err d) s3 c.loop-test.true (Ok true, s1, subst (λ b. checks_if types calls test l s (Ok b) s1) c.if-not-branch.false c.in_ok-goes_on.ensures, took_mark Iter site (and_then (inner l) (on_turn types calls (λ locals. and_then (step locals) (on_fall types calls (loops types calls m site test inner step))))) c.goes_on.new.script c.mark-in-loop.new.self (Err d) s3 c.in_ok-mark-2.ensures.marks c.in_ok-mark-2.ensures.inputs c.in_ok-mark-2.ensures.heap (Err d, s3, h, (refl, refl))))) c.in_err-statement.ensures
+    let l0 = locals_map c.args.locals.now in let l = locals_map c.loop.locals in let s0 = plain_script c.args.script.now in let s = plain_script c.loop.script in let s1 = plain_script c.goes_on.new.script in let d = c.in_err-statement.field-0.0 in let l1 = locals_map c.statement.new.locals in let s3 = plain_script c.statement.new.script in ended_by Flow Flow (λ s r s'. loops types calls n site test inner step l0 s (ended r l1) s') s0 s3 c.from_residual-in_err-statement.result d (err_from_is_err_and c.from_residual-in_err-statement.result c.from_residual-in_err-statement.ensures.1) (λ h. c.loop.invariant (Err d) s3 (next_turn types calls site test inner step n k l s (Err d) s3 c.loop-test.true (Ok true, s1, subst (λ b. checks_if types calls test l s (Ok b) s1) c.if-not-branch.false c.in_ok-goes_on.ensures, took_mark Iter site (and_then (inner l) (on_turn types calls (λ locals. and_then (step locals) (on_fall types calls (loops types calls m site test inner step))))) c.goes_on.new.script c.mark-in-loop.new.self (Err d) s3 c.in_ok-mark-2.ensures.marks c.in_ok-mark-2.ensures.inputs c.in_ok-mark-2.ensures.heap (Err d, s3, h, (refl, refl))))) c.in_err-statement.ensures
 
 pub turns-returns-in-Some : goal.turns-returns-in-Some
 turns-returns-in-Some t c =
@@ -579,8 +563,7 @@ pub turns-returns-in_err-other : goal.turns-returns-in_err-other
 turns-returns-in_err-other t c =
     let types = types_in c.args.callees.now in let calls = calls_of c.args.callees.now in let n = c.args.callees.now.depth in let site = c.args.site in let test = option_map (λ b. typed_condition b.value) c.args.c.now in let inner = ReplaysStatement types calls n (typed_statement c.args.inner.now) in let step = ReplaysStatement types calls n (typed_statement c.args.step.now) in let k = c.loop.counter in let m = n - (k + 1) in
     let l0 = locals_map c.args.locals.now in let l = locals_map c.loop.locals in let s0 = plain_script c.args.script.now in let s = plain_script c.loop.script in let s1 = plain_script c.goes_on.new.script in let l1 = locals_map c.statement.new.locals in let s3 = plain_script c.statement.new.script in let flow = c.in_ok-statement.field-0 in let l2 = locals_map c.statement-in-loop.new.locals in let s4 = plain_script c.statement-in-loop.new.script in let on = λ (locals : Locals). and_then (step locals) (on_fall types calls (loops types calls m site test inner step)) in let d = c.in_err-other.field-0.0 in
-    ended_by Flow Flow (λ s r s'. loops types calls n site test inner step l0 s (ended r l2) s') s0 s4 c.from_residual-in_err-other.result d (err_from_is_err_and c.from_residual-in_err-other.result c.from_residual-in_err-other.ensures.1)
-    (λ h. c.loop.invariant (Err d) s4 (next_turn types calls site test inner step n k l s (Err d) s4 c.loop-test.true (Ok true, s1, subst (λ b. checks_if types calls test l s (Ok b) s1) c.if-not-branch.false c.in_ok-goes_on.ensures, took_mark Iter site (and_then (inner l) (on_turn types calls (λ locals. and_then (step locals) (on_fall types calls (loops types calls m site test inner step))))) c.goes_on.new.script c.mark-in-loop.new.self (Err d) s4 c.in_ok-mark-2.ensures.marks c.in_ok-mark-2.ensures.inputs c.in_ok-mark-2.ensures.heap (Ok (flow, l1), s3, c.in_ok-statement.ensures, turn_goes types calls on flow l1 s3 (Err d) s4 (sym c.end_of_turn.ensures ∙ c.in_default.is) (Err d, s4, h, (refl, refl)))))) c.in_err-other.ensures
+    ended_by Flow Flow (λ s r s'. loops types calls n site test inner step l0 s (ended r l2) s') s0 s4 c.from_residual-in_err-other.result d (err_from_is_err_and c.from_residual-in_err-other.result c.from_residual-in_err-other.ensures.1) (λ h. c.loop.invariant (Err d) s4 (next_turn types calls site test inner step n k l s (Err d) s4 c.loop-test.true (Ok true, s1, subst (λ b. checks_if types calls test l s (Ok b) s1) c.if-not-branch.false c.in_ok-goes_on.ensures, took_mark Iter site (and_then (inner l) (on_turn types calls (λ locals. and_then (step locals) (on_fall types calls (loops types calls m site test inner step))))) c.goes_on.new.script c.mark-in-loop.new.self (Err d) s4 c.in_ok-mark-2.ensures.marks c.in_ok-mark-2.ensures.inputs c.in_ok-mark-2.ensures.heap (Ok (flow, l1), s3, c.in_ok-statement.ensures, turn_goes types calls on flow l1 s3 (Err d) s4 (sym c.end_of_turn.ensures ∙ c.in_default.is) (Err d, s4, h, (refl, refl)))))) c.in_err-other.ensures
 
 pub turns-returns-in_default-2 : goal.turns-returns-in_default-2
 turns-returns-in_default-2 t c =
@@ -610,8 +593,7 @@ pub update-returns-in_err-y-in-Cell : goal.update-returns-in_err-y-in-Cell
 update-returns-in_err-y-in-Cell t c =
     let types = types_in c.args.callees.now in let calls = calls_of c.args.callees.now in let l0 = locals_map c.args.locals.now in let s0 = plain_script c.args.script.now in let t = typed_expression c.args.e.now in let op = c.args.operator in let d = c.in_err-y-in-Cell.field-0.0 in let eq : typed_place c.args.place.now ≡ tree.cell_place (typed_expression c.deref.result.now) c.in-Cell.field c.in-Cell.block c.in-Cell.site =
     ap typed_place c.in-Cell.is ∙ sym (ap (λ e. tree.cell_place (typed_expression e) c.in-Cell.field c.in-Cell.block c.in-Cell.site) c.deref.ensures) in
-    let s1 = plain_script c.expression-in-Cell.new.script in let s2 = plain_script c.load.new.script in let s3 = plain_script c.expression-in-Cell-2.new.script in ended_by Value Flow (λ s r s'. updates types calls op (typed_place c.args.place.now) t l0 s (ended r l0) s') s0 s3 c.from_residual-in_err-y-in-Cell.result d (err_from_is_err_and c.from_residual-in_err-y-in-Cell.result c.from_residual-in_err-y-in-Cell.ensures.1)
-    (λ h. subst (λ p. updates types calls op p t l0 s0 (Err d) s3) (sym eq) (Ok c.in_ok-at-in-Cell.at, s1, c.in_ok-at-in-Cell.ensures, (Ok c.in_ok-x-in-Cell.x, s2, c.in_ok-x-in-Cell.ensures, (Err d, s3, h, (refl, refl))))) c.in_err-y-in-Cell.ensures
+    let s1 = plain_script c.expression-in-Cell.new.script in let s2 = plain_script c.load.new.script in let s3 = plain_script c.expression-in-Cell-2.new.script in ended_by Value Flow (λ s r s'. updates types calls op (typed_place c.args.place.now) t l0 s (ended r l0) s') s0 s3 c.from_residual-in_err-y-in-Cell.result d (err_from_is_err_and c.from_residual-in_err-y-in-Cell.result c.from_residual-in_err-y-in-Cell.ensures.1) (λ h. subst (λ p. updates types calls op p t l0 s0 (Err d) s3) (sym eq) (Ok c.in_ok-at-in-Cell.at, s1, c.in_ok-at-in-Cell.ensures, (Ok c.in_ok-x-in-Cell.x, s2, c.in_ok-x-in-Cell.ensures, (Err d, s3, h, (refl, refl))))) c.in_err-y-in-Cell.ensures
 
 pub update-returns-in_err-calculated-in-Cell : goal.update-returns-in_err-calculated-in-Cell
 update-returns-in_err-calculated-in-Cell t c =
@@ -624,8 +606,7 @@ pub update-returns-in_err-store-in-Cell : goal.update-returns-in_err-store-in-Ce
 update-returns-in_err-store-in-Cell t c =
     let types = types_in c.args.callees.now in let calls = calls_of c.args.callees.now in let l0 = locals_map c.args.locals.now in let s0 = plain_script c.args.script.now in let t = typed_expression c.args.e.now in let op = c.args.operator in let d = c.in_err-store-in-Cell.field-0.0 in let s4 = plain_script c.store.new.script in let eq : typed_place c.args.place.now ≡ tree.cell_place (typed_expression c.deref.result.now) c.in-Cell.field c.in-Cell.block c.in-Cell.site =
     ap typed_place c.in-Cell.is ∙ sym (ap (λ e. tree.cell_place (typed_expression e) c.in-Cell.field c.in-Cell.block c.in-Cell.site) c.deref.ensures) in
-    let s1 = plain_script c.expression-in-Cell.new.script in let s2 = plain_script c.load.new.script in let s3 = plain_script c.expression-in-Cell-2.new.script in ended_by ⊤ Flow (λ s r s'. updates types calls op (typed_place c.args.place.now) t l0 s (ended r l0) s') s0 s4 c.from_residual-in_err-store-in-Cell.result d (err_from_is_err_and c.from_residual-in_err-store-in-Cell.result c.from_residual-in_err-store-in-Cell.ensures.1)
-    (λ h. subst (λ p. updates types calls op p t l0 s0 (Err d) s4) (sym eq) (Ok c.in_ok-at-in-Cell.at, s1, c.in_ok-at-in-Cell.ensures, (Ok c.in_ok-x-in-Cell.x, s2, c.in_ok-x-in-Cell.ensures, (Ok c.in_ok-y-in-Cell.y, s3, c.in_ok-y-in-Cell.ensures, (Ok c.in_ok-calculated-in-Cell.field-0, s3, (c.in_ok-calculated-in-Cell.ensures, refl), h l0))))) c.in_err-store-in-Cell.ensures
+    let s1 = plain_script c.expression-in-Cell.new.script in let s2 = plain_script c.load.new.script in let s3 = plain_script c.expression-in-Cell-2.new.script in ended_by ⊤ Flow (λ s r s'. updates types calls op (typed_place c.args.place.now) t l0 s (ended r l0) s') s0 s4 c.from_residual-in_err-store-in-Cell.result d (err_from_is_err_and c.from_residual-in_err-store-in-Cell.result c.from_residual-in_err-store-in-Cell.ensures.1) (λ h. subst (λ p. updates types calls op p t l0 s0 (Err d) s4) (sym eq) (Ok c.in_ok-at-in-Cell.at, s1, c.in_ok-at-in-Cell.ensures, (Ok c.in_ok-x-in-Cell.x, s2, c.in_ok-x-in-Cell.ensures, (Ok c.in_ok-y-in-Cell.y, s3, c.in_ok-y-in-Cell.ensures, (Ok c.in_ok-calculated-in-Cell.field-0, s3, (c.in_ok-calculated-in-Cell.ensures, refl), h l0))))) c.in_err-store-in-Cell.ensures
 
 pub update-returns-in_ok-store-in-Cell : goal.update-returns-in_ok-store-in-Cell
 update-returns-in_ok-store-in-Cell t c =
@@ -756,6 +737,28 @@ statement-give_back-requires t c = let h = ap statement_size (ap typed_statement
 
 pub declaration-expression-requires : goal.declaration-expression-requires
 declaration-expression-requires t c = let h = ap (λ o. value_size (option_map (λ b. typed_expression b.value) o)) c.in-Some.is ∙ sym (ap (λ e. size_of (typed_expression e)) c.deref.ensures) in (falls c.args.callees.now _ _ t c.decreases (omega (arith, h)), tt)
+
+pub access-returns-in_err-effects : goal.access-returns-in_err-effects
+access-returns-in_err-effects t c =
+    let types = types_in c.args.callees.now in let calls = calls_of c.args.callees.now in let l0 = locals_map c.args.locals.now in let s0 = plain_script c.args.script.now in let p = typed_expression c.args.pointer.now in let ps = expressions_of (map typed_expression c.args.parts.now) in let l = c.args.cell in let s1 = plain_script c.expression.new.script in let s2 = plain_script c.effects.new.script in let d = c.in_err-effects.field-0.0 in ended_by ⊤ Flow (λ s r s'. accesses types calls p ps l.block l.site l0 s (ended r l0) s') s0 s2 c.from_residual-in_err-effects.result d (err_from_is_err_and c.from_residual-in_err-effects.result c.from_residual-in_err-effects.ensures.1) (λ h. (Ok c.in_ok-at.at, s1, c.in_ok-at.ensures, (Err d, s2, h, (refl, refl)))) c.in_err-effects.ensures
+
+pub access-returns-in_err-reach : goal.access-returns-in_err-reach
+access-returns-in_err-reach t c =
+    let types = types_in c.args.callees.now in let calls = calls_of c.args.callees.now in let l0 = locals_map c.args.locals.now in let s0 = plain_script c.args.script.now in let p = typed_expression c.args.pointer.now in let ps = expressions_of (map typed_expression c.args.parts.now) in let l = c.args.cell in let s1 = plain_script c.expression.new.script in let s2 = plain_script c.effects.new.script in let s3 = plain_script c.reach.new.script in let d = c.in_err-reach.field-0.0 in ended_surely (λ s r s'. accesses types calls p ps l.block l.site l0 s (ended r l0) s') s0 s3 c.from_residual-in_err-reach.result d (err_from_is_err_and c.from_residual-in_err-reach.result c.from_residual-in_err-reach.ensures.1) (Ok c.in_ok-at.at, s1, c.in_ok-at.ensures, (Ok tt, s2, c.in_ok-effects.ensures, (Err d, s3, c.in_err-reach.ensures, (refl, refl))))
+
+pub access-returns : goal.access-returns
+access-returns t c =
+    let s1 = plain_script c.expression.new.script in let s2 = plain_script c.effects.new.script in let s3 = plain_script c.reach.new.script in (Ok c.in_ok-at.at, s1, c.in_ok-at.ensures, (Ok tt, s2, c.in_ok-effects.ensures, (Ok tt, s3, c.in_ok-reach.ensures, (refl, refl))))
+
+pub access-expression-requires : goal.access-expression-requires
+access-expression-requires t c = (falls c.args.callees.now _ _ t c.decreases (omega (arith)), tt)
+
+pub access-effects-requires : goal.access-effects-requires
+access-effects-requires t c = (falls c.args.callees.now _ _ t c.decreases (omega (arith)), tt)
+
+pub statement-access-requires : goal.statement-access-requires
+statement-access-requires t c =
+    let l = c.in-Access.cell in let h = ap statement_size (ap typed_statement c.in-Access.is ∙ sym (ap₂ (λ e es. access (typed_expression e) (expressions_of (map typed_expression es)) l.field l.block l.site) c.deref-in-Access.ensures c.deref-in-Access-2.ensures.value)) in (falls c.args.callees.now _ _ t c.decreases (omega (arith, h)), tt)
 
 pub give_back-expression-requires : goal.give_back-expression-requires
 give_back-expression-requires t c = let h = ap (λ o. value_size (option_map (λ b. typed_expression b.value) o)) c.in-Some.is ∙ sym (ap (λ e. size_of (typed_expression e)) c.deref.ensures) in (falls c.args.callees.now _ _ t c.decreases (omega (arith, h)), tt)

@@ -138,6 +138,9 @@ decreases-update l = left_at l.callees.now (3 * (place_size (typed_place l.place
 abbrev pub decreases-declaration : goal.decreases-declaration
 decreases-declaration l = left_at l.callees.now (3 * value_size (option_map (λ b. typed_expression b.value) l.value.now) + 1)
 
+abbrev pub decreases-access : goal.decreases-access
+decreases-access l = left_at l.callees.now (3 * (size_of (typed_expression l.pointer.now) + sizes_of (expressions_of (map typed_expression l.parts.now))) + 3)
+
 abbrev pub decreases-give_back : goal.decreases-give_back
 decreases-give_back l = left_at l.callees.now (3 * value_size (option_map (λ b. typed_expression b.value) l.value.now) + 1)
 
