@@ -1,6 +1,6 @@
 use anyhow::{Context, Result, bail};
 use px_callgraph::Job;
-use px_wire::{Message, decode};
+use px_wire::{Said, decode_full};
 use std::alloc::Global;
 
 /// The bytes that hexadecimal digits say, two digits a byte.
@@ -51,8 +51,8 @@ impl Asked {
 
     /// The job that is asked for.
     pub fn job(&self) -> Result<Job> {
-        match decode(self.alloc, &self.request) {
-            Ok(Message::Request { job }) => Ok(job),
+        match decode_full(self.alloc, &self.request) {
+            Ok(Said::Request { job }) => Ok(job),
             _ => bail!("no request"),
         }
     }

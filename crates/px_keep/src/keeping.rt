@@ -7,7 +7,7 @@ ghost use Rattle.px_callgraph.specs.JobTree.{job_tree};
 ghost use Rattle.px_jobs.specs.Sources.{source_work};
 ghost use Rattle.px_explore.specs.Derived.{AreDerived};
 ghost use Rattle.px_pieces.specs.Pieces.{AreOf, table_from};
-ghost use Rattle.px_wire.specs.Messages.{message_tree};
+ghost use Rattle.px_wire.specs.Messages.{said_tree};
 ghost use Rattle.px_keep.specs.Keeping.{IsOwn, IsOfReply, IsWritten, KeepSoFar, KeepsWork};
 ghost use Rattle.px_keep.specs.Making.{AreMade, CanBeMade};
 
@@ -22,7 +22,7 @@ use px_explore::{Analysis, analyse};
 use px_findings::{Turn, check_all};
 use px_jobs::Sources;
 use px_terms::{BlockType, Domain, Items, NoMemory};
-use px_wire::Message;
+use px_wire::Said;
 use std::alloc::Global;
 
 /// The bytes that keep what one process finds out of the kept procedures with these bodies, within these limits, with the help of
@@ -116,7 +116,7 @@ fn written(
     ensures kinds { map (λ b. number b) domains.new.items ≡ map (λ b. number b) domains.old.items }
 {
     let Analysis { table, derivations } = analyse(alloc, job, domains)?;
-    let reply = Message::Reply {
+    let reply = Said::Reply {
         ticket: 0,
         kinds: Items::from_slice(alloc, job.kinds.as_slice())?,
         table,
@@ -130,17 +130,17 @@ fn written(
 }
 
 // The table of a reply, and the derivations of its entries.
-fn analysis_in(reply: Message) -> Option<Analysis>
-    ensures { IsOfReply (message_tree reply) result }
+fn analysis_in(reply: Said) -> Option<Analysis>
+    ensures { IsOfReply (said_tree reply) result }
 {
     match reply {
-        Message::Reply {
+        Said::Reply {
             table,
             derivations,
             ..
         } => Some(Analysis { table, derivations }),
-        Message::Request { .. } => None,
-        Message::Large { .. } => None,
+        Said::Request { .. } => None,
+        Said::Large { .. } => None,
     }
 }
 

@@ -7,7 +7,7 @@ use crate::kept::LentItem;
 use px_pool::first_frame;
 use px_spelling::WireFault;
 use px_terms::NoMemory;
-use px_wire::{Message, decode};
+use px_wire::{Said, decode_full};
 use std::alloc::Global;
 
 /// What stands after the head, if the bytes begin with it. Takes no memory.
@@ -62,16 +62,16 @@ fn asked_proc(alloc: Global, message: &[u8]) -> Result<Option<u32>, NoMemory>
     ensures some { IfOk result (λ o. IfSome o (AsksUnder0 message.now)) }
     ensures none { IfOk result (λ o. IfNone o ((n : ℕ) → ¬ AsksUnder0 message.now n)) }
 {
-    match decode(alloc, message) {
-        Ok(Message::Request { job }) => {
+    match decode_full(alloc, message) {
+        Ok(Said::Request { job }) => {
             if job.ticket == 0 {
                 Ok(Some(job.proc.0))
             } else {
                 Ok(None)
             }
         }
-        Ok(Message::Reply { .. }) => Ok(None),
-        Ok(Message::Large { .. }) => Ok(None),
+        Ok(Said::Reply { .. }) => Ok(None),
+        Ok(Said::Large { .. }) => Ok(None),
         Err(WireFault::NotAMessage) => Ok(None),
         Err(WireFault::NoMemory) => Err(NoMemory),
     }
@@ -81,10 +81,10 @@ fn asked_proc(alloc: Global, message: &[u8]) -> Result<Option<u32>, NoMemory>
 fn is_reply(alloc: Global, message: &[u8]) -> Result<bool, NoMemory>
     ensures { IfOk result (λ yes. (yes ≡ true) ↔ GivesUnder0 message.now) }
 {
-    match decode(alloc, message) {
-        Ok(Message::Reply { ticket, .. }) => Ok(ticket == 0),
-        Ok(Message::Request { .. }) => Ok(false),
-        Ok(Message::Large { .. }) => Ok(false),
+    match decode_full(alloc, message) {
+        Ok(Said::Reply { ticket, .. }) => Ok(ticket == 0),
+        Ok(Said::Request { .. }) => Ok(false),
+        Ok(Said::Large { .. }) => Ok(false),
         Err(WireFault::NotAMessage) => Ok(false),
         Err(WireFault::NoMemory) => Err(NoMemory),
     }

@@ -3,14 +3,14 @@ ghost use Rattle.px_entry.specs.declared.derivations.Derivation.{Derivation};
 ghost use Rattle.px_entry.specs.declared.tables.Table.{Table};
 ghost use Rattle.px_callgraph.specs.JobTree.{job_tree};
 ghost use Rattle.px_frames.specs.Frames.{frame_of, most_bytes};
-ghost use Rattle.px_wire.specs.Messages.{message_tree, reply as reply_tree};
+ghost use Rattle.px_wire.specs.Messages.{said_tree, reply as reply_tree};
 ghost use Rattle.px_keep.specs.Items.{items_bytes, head};
 ghost use Rattle.px_keep.specs.Writing.{with_room, IsPut};
 
 use px_callgraph::Job;
 use px_frames::{FrameFault, frame};
 use px_terms::NoMemory;
-use px_wire::{Message, encode, encode_request, is_in_range, is_request_in_range};
+use px_wire::{Said, encode_full, encode_request, is_request_in_range, is_said_in_range};
 use std::alloc::Global;
 
 /// Writes the eight bytes before all items.
@@ -26,20 +26,20 @@ pub(crate) fn put_head(out: &mut Vec<u8>) -> Result<(), NoMemory>
 pub(crate) fn put_item(
     alloc: Global,
     job: &Job,
-    reply: &Message,
+    reply: &Said,
     out: &mut Vec<u8>,
 ) -> Result<(), NoMemory>
     requires { job.now.ticket ≡ 0 }
-    ensures { (t : Table) (ds : List Derivation) → message_tree reply.now ≡ reply_tree 0 job.now.kinds t ds → OnOk result (IsPut (job_tree job.now) t ds out.old.items out.new.items) }
+    ensures { (t : Table) (ds : List Derivation) → said_tree reply.now ≡ reply_tree 0 job.now.kinds t ds → OnOk result (IsPut (job_tree job.now) t ds out.old.items out.new.items) }
 {
     if !is_request_in_range(job) {
         return Err(NoMemory);
     }
-    if !is_in_range(reply) {
+    if !is_said_in_range(reply) {
         return Err(NoMemory);
     }
     let asked = encode_request(alloc, job)?;
-    let given = encode(alloc, reply)?;
+    let given = encode_full(alloc, reply)?;
     put_frames(alloc, &asked, &given, out)
 }
 

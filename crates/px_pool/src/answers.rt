@@ -12,7 +12,7 @@ use px_entry::{Derivation, Gap, Table};
 use px_pieces::Lost;
 use px_spelling::WireFault;
 use px_terms::Items;
-use px_wire::{Message, decode};
+use px_wire::{Said, decode_full};
 use std::alloc::Global;
 
 /// What a reply gives: its entries, each checked, and its drops.
@@ -46,9 +46,9 @@ fn reply_in(alloc: Global, job: &Job, message: &[u8]) -> Result<Reply, Lost>
     ensures reply { IfOk result (λ r. Spells message.now (reply job.now.ticket job.now.kinds r.table r.derivations)) }
     ensures fault { (why : ALost) → IsErrOf result why → IsFaultIn (job_tree job.now) message.now why }
 {
-    match decode(alloc, message) {
+    match decode_full(alloc, message) {
         Ok(
-            Message::Reply {
+            Said::Reply {
                 ticket,
                 kinds,
                 table,
@@ -66,7 +66,7 @@ fn reply_in(alloc: Global, job: &Job, message: &[u8]) -> Result<Reply, Lost>
             }
             Ok(Reply { table, derivations })
         }
-        Ok(Message::Large { ticket }) => {
+        Ok(Said::Large { ticket }) => {
             if ticket != job.ticket {
                 return Err(Lost::Ticket {
                     asked: job.ticket,
@@ -75,7 +75,7 @@ fn reply_in(alloc: Global, job: &Job, message: &[u8]) -> Result<Reply, Lost>
             }
             Err(Lost::Large)
         }
-        Ok(Message::Request { .. }) => Err(Lost::Frame),
+        Ok(Said::Request { .. }) => Err(Lost::Frame),
         Err(WireFault::NotAMessage) => Err(Lost::Frame),
         Err(WireFault::NoMemory) => Err(Lost::NoMemory),
     }

@@ -10,7 +10,7 @@ use px_frames::{FrameFault, frame};
 use px_pieces::Lost;
 use px_spelling::WireFault;
 use px_terms::NoMemory;
-use px_wire::{Message, decode, encode_request};
+use px_wire::{Said, decode_full, encode_request};
 use std::alloc::Global;
 
 /// Whether the frame of a job's request spells the job, as it does where the job's numbers and lists are in range. No type
@@ -19,10 +19,10 @@ pub(crate) fn spells(alloc: Global, framed: &[u8], job: &Job) -> Result<bool, No
     requires { framed.now ≡ frame_of (request_of (job_tree job.now)) }
     ensures { IfOk result (λ yes. (yes ≡ true) ↔ IsMessage (request (job_tree job.now))) }
 {
-    match decode(alloc, message_in(framed)) {
-        Ok(Message::Request { job: again }) => Ok(equal_jobs(&again, job)),
-        Ok(Message::Reply { .. }) => Ok(false),
-        Ok(Message::Large { .. }) => Ok(false),
+    match decode_full(alloc, message_in(framed)) {
+        Ok(Said::Request { job: again }) => Ok(equal_jobs(&again, job)),
+        Ok(Said::Reply { .. }) => Ok(false),
+        Ok(Said::Large { .. }) => Ok(false),
         Err(WireFault::NotAMessage) => Ok(false),
         Err(WireFault::NoMemory) => Err(NoMemory),
     }

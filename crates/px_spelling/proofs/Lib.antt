@@ -12,3 +12,8 @@ pub mod TableRoundTrips
 pub mod OperandRoundTrips
 pub mod CalleeRoundTrips
 pub mod InFullRoundTrips
+pub mod PlaceLemmas
+pub mod DistinctLemmas
+pub mod IndexLemmas
+pub mod Growing
+pub mod MentionRanges

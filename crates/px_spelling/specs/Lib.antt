@@ -11,4 +11,6 @@ pub mod Tables
 pub mod Operands
 pub mod Callees
 pub mod InFull
+pub mod ByPlace
+pub mod Mentions
 pub mod Laws

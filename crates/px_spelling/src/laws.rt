@@ -1,4 +1,4 @@
-ghost use Rattle.px_spelling.specs.Laws.{WrittenIsRead, AreReadAgain, HoldersAreRead};
+ghost use Rattle.px_spelling.specs.Laws.{WrittenIsRead, AreReadAgain, HoldersAreRead, PlacesAreRead};
 
 use crate::Terms;
 
@@ -10,4 +10,9 @@ pub fn written_is_read()
 /// So is what holds polynomials, in each spelling in which these are.
 pub fn holders_are_read<S: Terms>(terms: &S)
     ensures { AreReadAgain (S.spelling terms.now) → HoldersAreRead (S.spelling terms.now) }
+{}
+
+/// So are polynomials that are spelled by their places in a list. The list of those that are mentioned has each once.
+pub fn places_are_read()
+    ensures { PlacesAreRead }
 {}

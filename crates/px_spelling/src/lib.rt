@@ -21,12 +21,16 @@ mod derivations;
 mod entries;
 mod fault;
 mod laws;
+mod mentions;
 mod numbers;
 mod operands;
 mod output;
+mod places;
+mod polynomial_order;
 mod polynomials;
 mod spell;
 mod tables;
+mod term_list;
 mod terms;
 mod traces;
 mod types;
@@ -34,10 +38,12 @@ mod types;
 pub use byte_count::ByteCount;
 pub use byte_list::ByteList;
 pub use fault::WireFault;
-pub use laws::{holders_are_read, written_is_read};
+pub use laws::{holders_are_read, places_are_read, written_is_read};
+pub use mentions::{Mentions, add_all_mentions};
 pub use output::Output;
 pub use spell::{
     Wire, WireWith, are_in_range, are_in_range_with, read_items, read_items_with, write_count,
     write_items, write_items_with,
 };
+pub use term_list::{TermList, distinct};
 pub use terms::{InFull, Terms};

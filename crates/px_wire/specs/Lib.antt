@@ -4,6 +4,8 @@ pub mod BodyRanges
 pub mod JobRanges
 pub mod Jobs
 pub mod Messages
+pub mod Mentions
+pub mod Versions
 pub mod Readers
 pub mod Sinks
 pub mod Laws

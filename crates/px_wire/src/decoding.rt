@@ -1,5 +1,6 @@
-ghost use Rattle.std.specs.Prelude.{◌≡◌, ◌++◌, ◌∷◌, IfOk, true};
+ghost use Rattle.std.specs.Prelude.{◌≡◌, ◌≢◌, ◌++◌, ◌∷◌, IfOk, true};
 ghost use Rattle.px_callgraph.specs.JobTree.{job_tree};
+ghost use Rattle.px_spelling.specs.ByPlace.{by_place};
 ghost use Rattle.px_spelling.specs.Numbers.{u8_bytes, IsU8};
 ghost use Rattle.px_spelling.specs.Lists.{list_bytes, IsList, any_number};
 ghost use Rattle.px_spelling.specs.Reading.{Gives};
@@ -7,30 +8,36 @@ ghost use Rattle.px_spelling.specs.Tables.{table_bytes, IsTable};
 ghost use Rattle.px_wire.specs.TableRanges.{table_within};
 ghost use Rattle.px_wire.specs.JobRanges.{rises};
 ghost use Rattle.px_wire.specs.Jobs.{limits_bytes, limits_of, numbers_at, AreLimits, job_bytes, IsJob, job_at};
-ghost use Rattle.px_wire.specs.Messages.{message_tree, message_bytes, IsMessage, any_types, IsDecoded};
-ghost use Rattle.px_wire.specs.Readers.{request_at, kinds_at, own_table_at, reply_at, large_at, message_at, message_in};
+ghost use Rattle.px_wire.specs.Messages.{said_tree, any_types, AreFields, IsDecoded};
+ghost use Rattle.px_wire.specs.Mentions.{terms_of};
+ghost use Rattle.px_wire.specs.Versions.{message_tree, BeginWith, IsDecodedIn};
+ghost use Rattle.px_wire.specs.Readers.{request_at, kinds_at, own_table_at, reply_at, large_at, fields_at, listed_at, shared_at, are_terms, with_terms, told_at, with_version, message_at, message_in};
 
 use crate::job_ranges::is_job_within;
-use crate::message::{Message, VERSION};
+use crate::message::{Message, Said, VERSION};
 use crate::rising_kinds::do_kinds_rise;
+use crate::sharing::{self, share};
 use crate::table_ranges::is_table_within;
 use px_base::{Limits, ProcId};
 use px_body_spelling::read_body;
 use px_callgraph::Job;
 use px_entry::Table;
-use px_spelling::{InFull, Terms, Wire, WireFault, WireWith, read_items, read_items_with};
-use px_terms::Items;
+use px_spelling::{
+    InFull, TermList, Terms, Wire, WireFault, WireWith, read_items, read_items_with,
+};
+use px_terms::{Items, NoMemory, Poly};
 use std::alloc::Global;
 
 /// More than any number of four bytes.
 pub const ANY_TYPES: usize = 4_294_967_296;
 
-/// The message that these bytes spell. `NotAMessage` comes exactly where they spell none; else `NoMemory`. A list
-/// takes no room for more items than the bytes hold at four bytes each, or than twice as many as were read.
+/// The message that these bytes spell, in version 1 or 2. `NotAMessage` comes exactly where they spell none; else
+/// `NoMemory`. A list takes no room for more items than the bytes hold at four bytes each, or than twice as many as were
+/// read.
 #[tactic(auto, unfolding(crate::specs::Readers::message_in))]
 pub fn decode(alloc: Global, bytes: &[u8]) -> Result<Message, WireFault>
-    ensures spelled { IsDecoded bytes.now result }
-    ensures reads { Gives message_tree result (message_in bytes.now) }
+    ensures spelled { IsDecodedIn bytes.now result }
+    ensures reads { Gives (λ m. (m.version, message_tree m)) result (message_in bytes.now) }
 {
     let (message, rest) = read_message(alloc, bytes)?;
     match rest {
@@ -39,47 +46,173 @@ pub fn decode(alloc: Global, bytes: &[u8]) -> Result<Message, WireFault>
     }
 }
 
-#[tactic(auto, unfolding(crate::specs::Readers::message_at, crate::specs::Readers::fields_at))]
+/// What the bytes say that spell a message in version 1. `NotAMessage` comes exactly where they spell none in that version; else
+/// `NoMemory`.
+#[tactic(auto, using(crate::proofs::MessageRoundTrips::is_first, crate::proofs::MessageRoundTrips::is_other, crate::proofs::MessageRoundTrips::none_first))]
+pub fn decode_full(alloc: Global, bytes: &[u8]) -> Result<Said, WireFault>
+    ensures spelled { IsDecoded bytes.now result }
+{
+    let message = decode(alloc, bytes)?;
+    if message.version() == VERSION {
+        Ok(message.into_said())
+    } else {
+        Err(WireFault::NotAMessage)
+    }
+}
+
+#[tactic(auto, unfolding(crate::specs::Readers::message_at))]
 fn read_message(alloc: Global, bytes: &[u8]) -> Result<(Message, &[u8]), WireFault>
-    ensures reads { Gives (λ x. (message_tree x.0, x.1.now)) result (message_at bytes.now) }
-    ensures spelled { IfOk result (λ x. (bytes.now ≡ message_bytes (message_tree x.0) ++ x.1.now) × IsMessage (message_tree x.0)) }
+    ensures reads { Gives (λ x. ((x.0.version, message_tree x.0), x.1.now)) result (message_at bytes.now) }
+    ensures spelled { IfOk result (λ x. BeginWith bytes.now x.0.version (message_tree x.0) x.1.now) }
 {
     let (tag, rest) = u8::read(alloc, bytes)?;
     let (version, rest) = u8::read(alloc, rest)?;
-    if version != VERSION {
-        return Err(WireFault::NotAMessage);
+    read_version(alloc, tag, version, rest)
+}
+
+// What follows the byte of the version.
+#[tactic(auto, unfolding(crate::specs::Readers::with_version), using(crate::proofs::Listed::begins_full))]
+fn read_version(
+    alloc: Global,
+    tag: u8,
+    version: u8,
+    bytes: &[u8],
+) -> Result<(Message, &[u8]), WireFault>
+    ensures reads { Gives (λ x. ((x.0.version, message_tree x.0), x.1.now)) result (with_version tag version bytes.now) }
+    ensures spelled { IfOk result (λ x. BeginWith (tag ∷ version ∷ bytes.now) x.0.version (message_tree x.0) x.1.now) }
+{
+    match version {
+        1 => {
+            let (said, rest) = read_fields(&InFull, alloc, tag, bytes)?;
+            Ok((Message::new(alloc, said), rest))
+        }
+        2 => read_shared(alloc, tag, bytes),
+        _ => Err(WireFault::NotAMessage),
     }
+}
+
+// What follows where each polynomial is sent once. That a reply is too long has no list.
+#[tactic(auto, unfolding(crate::specs::Readers::shared_at), using(crate::proofs::Listed::begins_large))]
+fn read_shared(alloc: Global, tag: u8, bytes: &[u8]) -> Result<(Message, &[u8]), WireFault>
+    ensures reads { Gives (λ x. ((x.0.version, message_tree x.0), x.1.now)) result (told_at 2 (shared_at tag) bytes.now) }
+    ensures spelled { IfOk result (λ x. BeginWith (tag ∷ 2 ∷ bytes.now) x.0.version (message_tree x.0) x.1.now) }
+{
+    if tag == 2 {
+        let (said, rest) = read_large(&InFull, alloc, bytes)?;
+        Ok((share(Message::new(alloc, said))?, rest))
+    } else {
+        read_listed(alloc, tag, bytes)
+    }
+}
+
+// A list, and what is said by places in it.
+#[tactic(auto, unfolding(crate::specs::Readers::listed_at))]
+fn read_listed(alloc: Global, tag: u8, bytes: &[u8]) -> Result<(Message, &[u8]), WireFault>
+    requires { tag ≢ 2 }
+    ensures reads { Gives (λ x. ((x.0.version, message_tree x.0), x.1.now)) result (told_at 2 (listed_at tag) bytes.now) }
+    ensures spelled { IfOk result (λ x. BeginWith (tag ∷ 2 ∷ bytes.now) x.0.version (message_tree x.0) x.1.now) }
+{
+    let (all, rest) = read_items(alloc, u32::MAX, bytes)?;
+    let (message, rest) = read_behind(alloc, tag, all, rest)?;
+    Ok((message, rest))
+}
+
+// What is said by places in a list. It is that of the terms, so no two of it are the same.
+#[tactic(auto, using(crate::proofs::Listed::not_listed))]
+fn read_behind<'a>(
+    alloc: Global,
+    tag: u8,
+    all: Items<Poly>,
+    bytes: &'a [u8],
+) -> Result<(Message, &'a [u8]), WireFault>
+    ensures reads { Gives (λ x. ((x.0.version, message_tree x.0), x.1.now)) result (told_at 2 (with_terms tag all) bytes.now) }
+    ensures spelled { IfOk result (λ x. (x.0.version ≡ 2) × AreFields (by_place all) tag bytes.now (message_tree x.0) x.1.now × (are_terms all (message_tree x.0) ≡ true)) }
+{
+    let Some(terms) = TermList::new(alloc, all)? else {
+        return Err(WireFault::NotAMessage);
+    };
+    read_by_place(alloc, tag, terms, bytes)
+}
+
+// The same, where no two are.
+#[tactic(auto, unfolding(crate::specs::Readers::with_terms))]
+fn read_by_place<'a>(
+    alloc: Global,
+    tag: u8,
+    terms: TermList,
+    bytes: &'a [u8],
+) -> Result<(Message, &'a [u8]), WireFault>
+    ensures reads { Gives (λ x. ((x.0.version, message_tree x.0), x.1.now)) result (told_at 2 (with_terms tag terms) bytes.now) }
+    ensures spelled { IfOk result (λ x. (x.0.version ≡ 2) × AreFields (by_place terms) tag bytes.now (message_tree x.0) x.1.now × (are_terms terms (message_tree x.0) ≡ true)) }
+{
+    let (said, rest) = read_fields(&terms, alloc, tag, bytes)?;
+    let own = has_terms(alloc, &terms, &said)?;
+    if own {
+        Ok((Message::with_terms(alloc, said, terms), rest))
+    } else {
+        Err(WireFault::NotAMessage)
+    }
+}
+
+// Whether these are the terms of what is said.
+fn has_terms(alloc: Global, terms: &TermList, said: &Said) -> Result<bool, NoMemory>
+    ensures test { IfOk result (λ own. own ≡ are_terms terms.now (said_tree said.now)) }
+    ensures own { IfOk result (λ own. own ≡ true → terms.now ≡ terms_of (said_tree said.now)) }
+{
+    let own = sharing::are_terms(alloc, terms, said)?;
+    Ok(own)
+}
+
+// By the byte that says which message it is.
+#[tactic(auto, unfolding(crate::specs::Readers::fields_at))]
+fn read_fields<'a, S: Terms>(
+    terms: &S,
+    alloc: Global,
+    tag: u8,
+    bytes: &'a [u8],
+) -> Result<(Said, &'a [u8]), WireFault>
+    ensures reads { Gives (λ x. (said_tree x.0, x.1.now)) result (fields_at (S.spelling terms.now) tag bytes.now) }
+    ensures spelled { IfOk result (λ x. AreFields (S.spelling terms.now) tag bytes.now (said_tree x.0) x.1.now) }
+{
     match tag {
-        0 => read_request(alloc, rest),
-        1 => read_reply(alloc, rest),
-        2 => read_large(alloc, rest),
+        0 => read_request(terms, alloc, bytes),
+        1 => read_reply(terms, alloc, bytes),
+        2 => read_large(terms, alloc, bytes),
         _ => Err(WireFault::NotAMessage),
     }
 }
 
 #[tactic(auto, unfolding(crate::specs::Readers::request_at))]
-fn read_request(alloc: Global, bytes: &[u8]) -> Result<(Message, &[u8]), WireFault>
-    ensures reads { Gives (λ x. (message_tree x.0, x.1.now)) result (request_at bytes.now) }
-    ensures spelled { IfOk result (λ x. (0 ∷ 1 ∷ bytes.now ≡ message_bytes (message_tree x.0) ++ x.1.now) × IsMessage (message_tree x.0)) }
+fn read_request<'a, S: Terms>(
+    terms: &S,
+    alloc: Global,
+    bytes: &'a [u8],
+) -> Result<(Said, &'a [u8]), WireFault>
+    ensures reads { Gives (λ x. (said_tree x.0, x.1.now)) result (request_at (S.spelling terms.now) bytes.now) }
+    ensures spelled { IfOk result (λ x. AreFields (S.spelling terms.now) 0 bytes.now (said_tree x.0) x.1.now) }
 {
-    let (job, rest) = read_job(&InFull, alloc, bytes)?;
+    let (job, rest) = read_job(terms, alloc, bytes)?;
     if is_job_within(&job) {
-        Ok((Message::Request { job }, rest))
+        Ok((Said::Request { job }, rest))
     } else {
         Err(WireFault::NotAMessage)
     }
 }
 
 #[tactic(auto, unfolding(crate::specs::Readers::reply_at))]
-fn read_reply(alloc: Global, bytes: &[u8]) -> Result<(Message, &[u8]), WireFault>
-    ensures reads { Gives (λ x. (message_tree x.0, x.1.now)) result (reply_at bytes.now) }
-    ensures spelled { IfOk result (λ x. (1 ∷ 1 ∷ bytes.now ≡ message_bytes (message_tree x.0) ++ x.1.now) × IsMessage (message_tree x.0)) }
+fn read_reply<'a, S: Terms>(
+    terms: &S,
+    alloc: Global,
+    bytes: &'a [u8],
+) -> Result<(Said, &'a [u8]), WireFault>
+    ensures reads { Gives (λ x. (said_tree x.0, x.1.now)) result (reply_at (S.spelling terms.now) bytes.now) }
+    ensures spelled { IfOk result (λ x. AreFields (S.spelling terms.now) 1 bytes.now (said_tree x.0) x.1.now) }
 {
     let (ticket, rest) = u64::read(alloc, bytes)?;
     let (kinds, rest) = read_kinds(alloc, rest)?;
-    let (table, rest) = read_table(&InFull, alloc, rest)?;
+    let (table, rest) = read_table(terms, alloc, rest)?;
     let (derivations, rest) = read_items(alloc, u32::MAX, rest)?;
-    let reply = Message::Reply {
+    let reply = Said::Reply {
         ticket,
         kinds,
         table,
@@ -89,12 +222,16 @@ fn read_reply(alloc: Global, bytes: &[u8]) -> Result<(Message, &[u8]), WireFault
 }
 
 #[tactic(auto, unfolding(crate::specs::Readers::large_at))]
-fn read_large(alloc: Global, bytes: &[u8]) -> Result<(Message, &[u8]), WireFault>
-    ensures reads { Gives (λ x. (message_tree x.0, x.1.now)) result (large_at bytes.now) }
-    ensures spelled { IfOk result (λ x. (2 ∷ 1 ∷ bytes.now ≡ message_bytes (message_tree x.0) ++ x.1.now) × IsMessage (message_tree x.0)) }
+fn read_large<'a, S: Terms>(
+    terms: &S,
+    alloc: Global,
+    bytes: &'a [u8],
+) -> Result<(Said, &'a [u8]), WireFault>
+    ensures reads { Gives (λ x. (said_tree x.0, x.1.now)) result (large_at bytes.now) }
+    ensures spelled { IfOk result (λ x. AreFields (S.spelling terms.now) 2 bytes.now (said_tree x.0) x.1.now) }
 {
     let (ticket, rest) = u64::read(alloc, bytes)?;
-    Ok((Message::Large { ticket }, rest))
+    Ok((Said::Large { ticket }, rest))
 }
 
 // Kinds that rise.

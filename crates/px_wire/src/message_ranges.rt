@@ -2,11 +2,12 @@ ghost use Rattle.std.specs.Prelude.{◌≡◌, ◌↔◌, true};
 ghost use Rattle.px_base.specs.LimitNumbers.{IsInRange};
 ghost use Rattle.px_callgraph.specs.JobTree.{job_tree};
 ghost use Rattle.px_wire.specs.Jobs.{IsJob};
-ghost use Rattle.px_wire.specs.Messages.{request, reply, message_tree, IsMessage};
+ghost use Rattle.px_wire.specs.Messages.{request, reply, said_tree, IsMessage};
+ghost use Rattle.px_wire.specs.Versions.{message_tree, HasVersion};
 
 use crate::decoding::ANY_TYPES;
 use crate::job_ranges::is_job_within;
-use crate::message::Message;
+use crate::message::{Message, Said};
 use crate::rising_kinds::do_kinds_rise;
 use crate::table_ranges::is_table_within;
 use px_base::Limits;
@@ -17,17 +18,34 @@ use px_spelling::{InFull, Terms, Wire, WireWith, are_in_range, are_in_range_with
 
 /// Whether a message is in range, so that its bytes spell it. Takes no memory.
 pub fn is_in_range(message: &Message) -> bool
-    ensures { result ≡ true ↔ IsMessage (message_tree message.now) }
+    ensures { result ≡ true ↔ IsMessage (message_tree message.now) × HasVersion message.now.version (message_tree message.now) }
 {
-    match message {
-        Message::Request { job } => is_request_in_range(job),
-        Message::Reply {
+    is_said_in_range(message.said()) && are_terms_few(message)
+}
+
+// Whether the terms of a message can be counted.
+fn are_terms_few(message: &Message) -> bool
+    ensures { result ≡ true ↔ HasVersion message.now.version (message_tree message.now) }
+{
+    match message.terms() {
+        None => true,
+        Some(terms) => terms.len() <= u32::MAX as usize,
+    }
+}
+
+/// Whether what is said is in range, so that its bytes in version 1 spell it. Takes no memory.
+pub fn is_said_in_range(said: &Said) -> bool
+    ensures { result ≡ true ↔ IsMessage (said_tree said.now) }
+{
+    match said {
+        Said::Request { job } => is_request_in_range(job),
+        Said::Reply {
             ticket,
             kinds,
             table,
             derivations,
         } => is_reply_in_range(*ticket, kinds.as_slice(), table, derivations.as_slice()),
-        Message::Large { ticket } => ticket.is_in_range(),
+        Said::Large { ticket } => ticket.is_in_range(),
     }
 }
 

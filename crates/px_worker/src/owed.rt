@@ -2,7 +2,8 @@ ghost use Rattle.std.specs.Prelude.{◌≡◌, ◌≢◌, ◌≤◌, ◌↔◌, 
 ghost use Rattle.px_base.specs.Bounds.{most_variables};
 ghost use Rattle.px_callgraph.specs.JobTree.{JobTree, job_tree};
 ghost use Rattle.px_frames.specs.Frames.{most_bytes};
-ghost use Rattle.px_wire.specs.Messages.{message_tree, message_bytes, reply, large, IsMessage, Asks};
+ghost use Rattle.px_wire.specs.Messages.{said_tree, message_bytes, reply, large, IsMessage, Asks};
+ghost use Rattle.px_wire.specs.Versions.{message_tree, bytes_in};
 ghost use Rattle.px_explore.specs.declared.results.Analysis.{Analysis as AnAnalysis};
 ghost use Rattle.px_explore.specs.Own.{IsAnalysis};
 ghost use Rattle.px_worker.specs.declared.owed.NotOwed.TheVariants as why;
@@ -13,7 +14,7 @@ use px_explore::analyse;
 use px_frames::MOST_BYTES;
 use px_spelling::WireFault;
 use px_terms::{Domain, NoMemory};
-use px_wire::{Message, decode, is_in_range};
+use px_wire::{Message, Said, decode_full, is_said_in_range};
 use std::alloc::Global;
 
 /// Why nothing is owed for a message, or not known what.
@@ -51,8 +52,8 @@ pub(crate) fn owed(
 ) -> Result<CountedMessage, NotOwed>
     requires message { length message.now ≤ most_bytes }
     requires clear { All (λ b. holds b []) domains.old.items }
-    ensures owed { IfOk result (λ o. IsOwed (map (λ b. number b) domains.old.items) message.now (message_bytes (message_tree o.message))) }
-    ensures counted { IfOk result (λ o. o.count ≡ length (message_bytes (message_tree o.message))) }
+    ensures owed { IfOk result (λ o. IsOwed (map (λ b. number b) domains.old.items) message.now (bytes_in o.message.version (message_tree o.message))) }
+    ensures counted { IfOk result (λ o. o.count ≡ length (bytes_in o.message.version (message_tree o.message))) }
     ensures short { IfOk result (λ o. o.count ≤ most_bytes) }
     ensures no_request { IsErrOf result why.NoRequest → (j : JobTree) → ¬ Asks message.now j }
     ensures others { IsErrOf result why.OtherKinds → (j : JobTree) × Asks message.now j × (j.kinds ≢ map (λ b. number b) domains.old.items) }
@@ -66,16 +67,16 @@ pub(crate) fn owed(
     }
     let found = analyse(alloc, &job, domains)?;
     let ticket = job.ticket;
-    let reply = Message::Reply {
+    let reply = Said::Reply {
         ticket,
         kinds: job.kinds,
         table: found.table,
         derivations: found.derivations,
     };
-    if !is_in_range(&reply) {
+    if !is_said_in_range(&reply) {
         return Err(NotOwed::OutOfRange);
     }
-    Ok(fitted(reply, ticket))
+    Ok(fitted(alloc, reply, ticket))
 }
 
 // The job that a message asks for.
@@ -86,10 +87,10 @@ fn request_in(alloc: Global, message: &[u8]) -> Result<Job, NotOwed>
     ensures known { ¬ IsErrOf result why.OtherKinds }
     ensures within { ¬ IsErrOf result why.OutOfRange }
 {
-    match decode(alloc, message) {
-        Ok(Message::Request { job }) => Ok(job),
-        Ok(Message::Reply { .. }) => Err(NotOwed::NoRequest),
-        Ok(Message::Large { .. }) => Err(NotOwed::NoRequest),
+    match decode_full(alloc, message) {
+        Ok(Said::Request { job }) => Ok(job),
+        Ok(Said::Reply { .. }) => Err(NotOwed::NoRequest),
+        Ok(Said::Large { .. }) => Err(NotOwed::NoRequest),
         Err(WireFault::NotAMessage) => Err(NotOwed::NoRequest),
         Err(WireFault::NoMemory) => Err(NotOwed::NoMemory),
     }
@@ -135,15 +136,16 @@ fn number_of(domain: &Box<dyn Domain>) -> u8
 }
 
 // A reply to a job with this ticket, or that it is too long for a frame, which takes ten bytes.
-fn fitted(reply: Message, ticket: u64) -> CountedMessage
-    ensures bytes { message_bytes (message_tree result.message) ≡ in_frame (message_bytes (message_tree reply)) (message_bytes (large ticket)) }
-    ensures counted { result.count ≡ length (message_bytes (message_tree result.message)) }
+fn fitted(alloc: Global, reply: Said, ticket: u64) -> CountedMessage
+    ensures bytes { bytes_in result.message.version (message_tree result.message) ≡ in_frame (message_bytes (said_tree reply)) (message_bytes (large ticket)) }
+    ensures counted { result.count ≡ length (bytes_in result.message.version (message_tree result.message)) }
     ensures short { result.count ≤ most_bytes }
 {
+    let reply = Message::new(alloc, reply);
     let count = px_wire::length(&reply);
     if count > MOST_BYTES as u64 {
         return CountedMessage {
-            message: Message::Large { ticket },
+            message: Message::new(alloc, Said::Large { ticket }),
             count: 10,
         };
     }

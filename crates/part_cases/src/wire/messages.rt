@@ -2,7 +2,7 @@ use super::changes::{CHANGES, changed};
 use super::parts::{come_together, come_together_at_each_cut, come_together_in_pieces};
 use anyhow::{Result, bail};
 use px_spelling::WireFault;
-use px_wire::{Message, decode, encode, length};
+use px_wire::{Message, Said, decode_full, encode, length};
 use std::alloc::Global;
 use std::fmt::Write;
 
@@ -21,8 +21,8 @@ enum Spelled {
 }
 
 fn read_as(alloc: Global, bytes: &[u8]) -> Result<Spelled> {
-    let message = match decode(alloc, bytes) {
-        Ok(message) => message,
+    let said = match decode_full(alloc, bytes) {
+        Ok(said) => said,
         Err(WireFault::NotAMessage) => {
             let none = come_together(alloc, bytes, false)?;
             return Ok(if none {
@@ -33,10 +33,11 @@ fn read_as(alloc: Global, bytes: &[u8]) -> Result<Spelled> {
         }
         Err(WireFault::NoMemory) => bail!("no memory"),
     };
-    let is_request = matches!(message, Message::Request { .. });
+    let is_request = matches!(said, Said::Request { .. });
     if !come_together(alloc, bytes, !is_request)? {
         return Ok(Spelled::Otherwise);
     }
+    let message = Message::new(alloc, said);
     let again = encode(alloc, &message)?;
     if again.as_slice() != bytes {
         return Ok(Spelled::Otherwise);
@@ -44,10 +45,10 @@ fn read_as(alloc: Global, bytes: &[u8]) -> Result<Spelled> {
     if length(&message) != bytes.len() as u64 {
         return Ok(Spelled::Otherwise);
     }
-    Ok(match message {
-        Message::Request { .. } => Spelled::Request,
-        Message::Reply { .. } => Spelled::Reply,
-        Message::Large { .. } => Spelled::Large,
+    Ok(match message.said() {
+        Said::Request { .. } => Spelled::Request,
+        Said::Reply { .. } => Spelled::Reply,
+        Said::Large { .. } => Spelled::Large,
     })
 }
 

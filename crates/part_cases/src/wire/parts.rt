@@ -3,7 +3,7 @@ use px_entry::{Derivation, Entry, Gap, Table};
 use px_parts::{Part, Reader, Taken};
 use px_spelling::WireFault;
 use px_terms::Items;
-use px_wire::{Message, encode};
+use px_wire::{Said, encode_full};
 use std::alloc::Global;
 
 /// How many bytes a piece has.
@@ -126,11 +126,11 @@ fn is_whole(alloc: Global, standing: Standing, gathered: Gathered, bytes: &[u8])
     match standing {
         Standing::Open => bail!("nothing is said of all bytes"),
         Standing::NoMessage => Ok(false),
-        Standing::Whole => Ok(encode(alloc, &message_of(gathered))?.as_slice() == bytes),
+        Standing::Whole => Ok(encode_full(alloc, &said_of(gathered))?.as_slice() == bytes),
     }
 }
 
-fn message_of(gathered: Gathered) -> Message {
+fn said_of(gathered: Gathered) -> Said {
     let Gathered {
         ticket,
         kinds,
@@ -139,13 +139,13 @@ fn message_of(gathered: Gathered) -> Message {
         derivations,
     } = gathered;
     match kinds {
-        Some(kinds) => Message::Reply {
+        Some(kinds) => Said::Reply {
             ticket,
             kinds,
             table: Table { entries, drops },
             derivations,
         },
-        None => Message::Large { ticket },
+        None => Said::Large { ticket },
     }
 }
 

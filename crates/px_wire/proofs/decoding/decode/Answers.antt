@@ -1,5 +1,5 @@
 use Rattle.std.proofs.lemmas.Result.{err_from_is_err_and}
-use Rattle.px_wire.specs.Messages.{message_tree}
+use Rattle.px_wire.specs.Versions.{message_tree}
 use Rattle.px_wire.proofs.MessageRoundTrips.{fails_is_decoded, more_is_none}
 use Rattle.px_wire.proofs.decoding.decode.Goals as goal
 
@@ -10,4 +10,5 @@ returns-in_err-message-clause-spelled c =
 
 pub returns-in-len1-up-clause-spelled : goal.returns-in-len1-up-clause-spelled
 returns-in-len1-up-clause-spelled c =
-    more_is_none c.args.bytes.now c.in_ok-message.rest.now (message_tree c.in_ok-message.message) c.in_ok-message.ensures.reads c.in-len1-up.len_at_least
+    let m = c.in_ok-message.message in
+    more_is_none c.args.bytes.now c.in_ok-message.rest.now (m.version, message_tree m) c.in_ok-message.ensures.reads c.in-len1-up.len_at_least

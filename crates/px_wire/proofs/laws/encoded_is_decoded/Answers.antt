@@ -4,6 +4,6 @@ use Rattle.px_wire.proofs.laws.encoded_is_decoded.Goals as goal
 
 pub returns : goal.returns
 returns c = record {
-  spelled = λ m fits. (refl, fits);
+  spelled = λ number m fits has. (refl, fits, has);
   read = spelled_is_read;
 }

@@ -1,6 +1,6 @@
 use Rattle.std.proofs.Common.{rules, ◌≡◌, ◌≢◌, map}
 use Rattle.px_callgraph.specs.JobTree.{job_tree}
-use Rattle.px_wire.specs.Messages.{message_bytes, message_tree}
+use Rattle.px_wire.specs.Versions.{message_tree, bytes_in}
 use Rattle.px_worker.proofs.OwedLemmas.{owed_is, out_is}
 use Rattle.px_worker.proofs.owed.owed.Goals as goal
 
@@ -10,14 +10,14 @@ returns-then-not-are_kinds-clause-others g c =
     let differ : c.in_ok-job.job.kinds ≢ kinds = search rules in
     (λ e. (job_tree c.in_ok-job.job, c.in_ok-job.ensures.asks, differ))
 
-pub returns-then-not-is_in_range-clause-out : goal.returns-then-not-is_in_range-clause-out
-returns-then-not-is_in_range-clause-out g c = λ e.
+pub returns-then-not-is_said_in_range-clause-out : goal.returns-then-not-is_said_in_range-clause-out
+returns-then-not-is_said_in_range-clause-out g c = λ e.
     out_is c.args.message.now (job_tree c.in_ok-job.job) c.in_ok-found.found c.in_ok-job.ensures.asks
-    (record { table = c.in_ok-found.ensures.table; own = c.in_ok-found.ensures.own }) c.is_in_range.result c.is_in_range.ensures c.if-not-is_in_range.true
+    (record { table = c.in_ok-found.ensures.table; own = c.in_ok-found.ensures.own }) c.is_said_in_range.result c.is_said_in_range.ensures c.if-not-is_said_in_range.true
 
 pub returns-clause-owed : goal.returns-clause-owed
 returns-clause-owed g c =
     let kinds = map (λ b. (goal.Domain-dyn g (b.vtable, b.value)).number b.value) c.args.domains.now.items in
     let own : c.in_ok-job.job.kinds ≡ kinds = search rules in
-    owed_is kinds c.args.message.now (message_bytes (message_tree c.fitted.result.message)) (job_tree c.in_ok-job.job) c.in_ok-found.found c.requires.message c.in_ok-job.ensures.asks own
-    (record { table = c.in_ok-found.ensures.table; own = c.in_ok-found.ensures.own }) c.fitted.ensures.bytes (c.is_in_range.ensures.0 c.if-not-is_in_range.false)
+    owed_is kinds c.args.message.now (bytes_in c.fitted.result.message.version (message_tree c.fitted.result.message)) (job_tree c.in_ok-job.job) c.in_ok-found.found c.requires.message c.in_ok-job.ensures.asks own
+    (record { table = c.in_ok-found.ensures.table; own = c.in_ok-found.ensures.own }) c.fitted.ensures.bytes (c.is_said_in_range.ensures.0 c.if-not-is_said_in_range.false)

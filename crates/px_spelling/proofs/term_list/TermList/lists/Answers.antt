@@ -1,0 +1,61 @@
+use Rattle.std.proofs.Common.{◌≡◌, ◌<◌, ◌≤◌, List, length, map, take, get_or, true, false, Some, None, sym, ap, ◌∙◌, arith, rules}
+use Rattle.std.proofs.lemmas.List.{length-map, get_or-map}
+use Rattle.px_terms.specs.Polynomials.{Polynomial}
+use Rattle.px_spelling.specs.ByPlace.{place_in, distinct}
+use Rattle.px_spelling.proofs.Growing.{lists_old, lists_new, lists_other, lists_all}
+use Rattle.px_spelling.proofs.term_list.TermList.lists.Goals.{then-place-count-2, else-place-count-2}
+use Rattle.px_spelling.proofs.term_list.TermList.lists.Goals as goal
+
+pub returns-in_default : goal.returns-in_default
+returns-in_default c =
+    let ts = c.args.self.now in
+    let ms : List Polynomial = map (λ p. p.now) c.args.mentions.now in
+    let i = c.loop-mention.mention-index in
+    let p = c.mention-item.result in
+    let within : i < length ms = rw length-map (omega arith) in
+    let own : get_or ms i p.now ≡ p.now = get_or-map (λ q. q.now) c.args.mentions.now i p p.now (omega arith) ∙ ap (λ q. q.now) (sym c.mention-item.is) in
+    let at : place_in ts (get_or ms i p.now) ≡ None = rw own cc in
+    (λ e. absurd cc, λ are. absurd (lists_other ms ts i c.loop-mention.count p.now None c.len-most.ensures.differ c.loop-mention.invariant.0 within c.loop-mention.invariant.1 at tt are))
+
+pub returns-then-place-count : goal.returns-then-place-count
+returns-then-place-count c =
+    let ts = c.args.self.now in
+    let ms : List Polynomial = map (λ p. p.now) c.args.mentions.now in
+    let i = c.loop-mention.mention-index in
+    let p = c.mention-item.result in
+    let within : i < length ms = rw length-map (omega arith) in
+    let own : get_or ms i p.now ≡ p.now = get_or-map (λ q. q.now) c.args.mentions.now i p p.now (omega arith) ∙ ap (λ q. q.now) (sym c.mention-item.is) in
+    let at : place_in ts (get_or ms i p.now) ≡ Some c.in-Some.place = rw own cc in
+    (λ e. absurd cc, λ are. absurd (lists_other ms ts i c.loop-mention.count p.now (Some c.in-Some.place) c.len-most.ensures.differ c.loop-mention.invariant.0 within c.loop-mention.invariant.1 at (omega arith) are))
+
+pub overflow_add-count : goal.overflow_add-count
+overflow_add-count c =
+    let ts = c.args.self.now in
+    let ms : List Polynomial = map (λ p. p.now) c.args.mentions.now in
+    let i = c.loop-mention.mention-index in
+    let p = c.mention-item.result in
+    let within : i < length ms = rw length-map (omega arith) in
+    let own : get_or ms i p.now ≡ p.now = get_or-map (λ q. q.now) c.args.mentions.now i p p.now (omega arith) ∙ ap (λ q. q.now) (sym c.mention-item.is) in
+    let at : place_in ts (get_or ms i p.now) ≡ Some c.loop-mention.count = rw own cc in
+    let next = lists_new ms ts i c.loop-mention.count p.now within c.loop-mention.invariant.1 at in
+    let few : c.loop-mention.count < length ts = next.0 in
+    omega (arith, c.len-most.ensures.count)
+
+pub loop-mention-preserved : goal.loop-mention-preserved
+loop-mention-preserved c =
+    let ts = c.args.self.now in
+    let ms : List Polynomial = map (λ p. p.now) c.args.mentions.now in
+    let i = c.loop-mention.mention-index in
+    let p = c.mention-item.result in
+    let within : i < length ms = rw length-map (omega arith) in
+    let own : get_or ms i p.now ≡ p.now = get_or-map (λ q. q.now) c.args.mentions.now i p p.now (omega arith) ∙ ap (λ q. q.now) (sym c.mention-item.is) in
+    elim c.if-place-count-2.branch [
+      | then-place-count-2 w ↦
+          let at : place_in ts (get_or ms i p.now) ≡ Some c.loop-mention.count = rw own cc in
+          let next = lists_new ms ts i c.loop-mention.count p.now within c.loop-mention.invariant.1 at in
+          rw w.count-is (omega (arith, next.0), next.1)
+      | else-place-count-2 w ↦
+          let at : place_in ts (get_or ms i p.now) ≡ Some c.in-Some.place = rw own cc in
+          let less : c.in-Some.place < c.loop-mention.count = omega arith in
+          rw w.count-is (c.loop-mention.invariant.0, lists_old ms ts i c.loop-mention.count c.in-Some.place p.now within c.loop-mention.invariant.1 at less)
+    ]
