@@ -1,7 +1,8 @@
 ghost use Rattle.std.specs.Prelude.{◌≡◌, map, IfOk, OnOk, OnErr};
-ghost use Rattle.px_real_declaring.specs.Trees.{declared_tree, declaration_tree};
+ghost use Rattle.px_real_declaring.specs.Trees.{specifier_tree, declared_tree, declaration_tree};
 ghost use Rattle.px_real_members.specs.Trees.{head_tree};
 ghost use Rattle.px_real_types.specs.Scopes.{texts};
+ghost use Rattle.px_real_scopes.specs.Entering as Entering;
 ghost use Rattle.px_real_scopes.specs.Behind as Rules;
 ghost use Rattle.px_real_scopes.specs.Behind.{IsBehind};
 ghost use Rattle.px_real_scopes.specs.Steps.{Comes, Grows, AreHeights, cut_to};
@@ -12,7 +13,7 @@ use crate::functions::{declared_function, defined_function};
 use crate::known::{declared_known, parameter_known, seen, unknown};
 use crate::meaning::Meaning;
 use crate::scopes::{Scopes, type_word};
-use px_real_declaring::{Declaration, DeclarationFault, Declared};
+use px_real_declaring::{Declaration, DeclarationFault, Declared, Specifier};
 use px_real_members::Head;
 use px_real_names::names::is_typedef;
 use px_real_types::{Known, ProfileType, Texts, declared_name, function_in, specified};
@@ -64,8 +65,8 @@ fn settle(
     came
 }
 
-// What a name means that is declared.
-fn declared_meaning(
+/// What a name means that is declared, as a type or not. Its specifiers' type is known, and has this word.
+pub fn declared_meaning(
     alloc: Global,
     scopes: &Scopes,
     on: Texts,
@@ -277,6 +278,22 @@ fn bring_parameters(
 }
 
 impl Scopes {
+    /// Brings what specifiers declare into scope, which stand alone or not: tags, the structs and unions that they define, and enumerators. Where
+    /// there is a fault what was in scope still is, and nothing else.
+    pub fn declare_specifiers(
+        &mut self,
+        alloc: Global,
+        on: Texts,
+        alone: bool,
+        specifiers: &[Specifier],
+    ) -> Result<(), DeclarationFault>
+        ensures { IsBehind (Entering.with_specifiers alone (map (specifier_tree (texts on.entry)) specifiers.now) self.old) self.old self.new result }
+    {
+        let before = how_much(self);
+        let came = with_specifiers(alloc, self, on, alone, specifiers);
+        settle(self, before, came)
+    }
+
     /// Brings what a declaration declares into scope: tags, the structs and unions that it defines, enumerators, and then its names. Where there
     /// is a fault what was in scope still is, and nothing else.
     pub fn declare(

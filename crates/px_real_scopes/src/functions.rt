@@ -88,7 +88,7 @@ fn parameter_types(
 }
 
 // Whether a fault is that memory ran out.
-fn is_memory(fault: DeclarationFault) -> bool
+pub fn is_memory(fault: DeclarationFault) -> bool
     ensures { result ≡ is_memory fault }
 {
     match fault {

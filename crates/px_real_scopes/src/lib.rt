@@ -15,6 +15,9 @@ mod meaning;
 mod members;
 mod scopes;
 
+pub use declaring::declared_meaning;
+pub use functions::is_memory;
+pub use known::seen;
 pub use laws::{blocks_are_left, cells_agree, cells_are_numbered, worked_scopes};
 pub use meaning::{Function, Meaning, NamedMember, Tag};
-pub use scopes::Scopes;
+pub use scopes::{Scopes, type_word};

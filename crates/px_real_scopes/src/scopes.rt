@@ -145,7 +145,7 @@ fn specifier_word(specifier: &Specifier) -> &Name
     }
 }
 
-// The first word of a type that is no qualifier and no storage class, or `int`.
+/// The first word of a type that is no qualifier and no storage class, or `int`.
 pub fn type_word(alloc: Global, specifiers: &[Specifier]) -> Result<Name, NoMemory>
     ensures { IfOk result (λ n. (all : List Lexeme) → n ≡ type_word (map (specifier_tree all) specifiers.now)) }
 {
@@ -339,7 +339,7 @@ impl Scopes {
         self.definitions.push(definition)
     }
 
-    // A name means this.
+    /// A name means this. After an `Err` what is in scope is as it was.
     pub fn add_name(&mut self, alloc: Global, name: &[u8], meaning: Meaning) -> Result<(), NoMemory>
         ensures added { OnOk result (self.new ≡ with_name (Some name.now) (meaning_view meaning) self.old) }
         ensures refused { OnErr result (self.new ≡ self.old) }

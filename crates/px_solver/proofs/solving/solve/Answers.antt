@@ -11,4 +11,4 @@ returns-clause-no c = λ e.
     let old : ℕ → ℕ = λ v. get_or c.args.roots.now v 0 in
     inr (λ places w. c.search.ensures.none e places
     (subst (λ z. Works c.args.table.now c.args.conjuncts.now c.args.indexes.now z ends c.args.members.now places) (sym (value ∙ read))
-      (works_over c.args.table.now c.args.conjuncts.now c.args.indexes.now _ old ends c.args.members.now places (λ v o. sym (c.is_solved_by_ends.ensures.others v o)) w)))
+    (works_over c.args.table.now c.args.conjuncts.now c.args.indexes.now _ old ends c.args.members.now places (λ v o. sym (c.is_solved_by_ends.ensures.others v o)) w)))
