@@ -10,7 +10,7 @@ use Rattle.px_terms.specs.declared.types.ValueType.{ValueType}
 use Rattle.px_core.specs.declared.command.Operand.{Operand}
 use Rattle.px_core.specs.declared.command.Operand.TheVariants.{Slot, Word}
 use Rattle.px_core.specs.declared.command.Operator.TheVariants.{Neg}
-use Rattle.px_core.specs.CommandTree.{CommandTree, assign, unset, load, read, test}
+use Rattle.px_core.specs.CommandTree.{CommandTree, assign, unset, load, read}
 use Rattle.px_core.specs.CommandTree as command
 use Rattle.px_syntax.specs.declared.typed_expression.Arithmetic.{Arithmetic}
 use Rattle.px_syntax.specs.declared.typed_expression.CellLink.{CellLink}
@@ -20,7 +20,7 @@ use Rattle.px_syntax.specs.declared.typed_expression.TypedExpression.TheVariants
 use Rattle.px_syntax.specs.declared.typed_expression.Argument.{Argument}
 use Rattle.px_syntax.specs.declared.typed_expression.Argument.TheVariants as A
 use Rattle.px_syntax.specs.declared.typed_expression.Condition.{Condition}
-use Rattle.px_syntax.specs.TypedTree.{Expression, Expressions, no_expressions, an_expression, Arguments, no_arguments, an_argument, Condition as Test, expressions_of, arguments_of, constant, null, local, negated, arithmetic, truth, cell, allocate, get_char, call, stop}
+use Rattle.px_syntax.specs.TypedTree.{Expression, no_expressions, an_expression, Arguments, no_arguments, an_argument, Condition as Test, expressions_of, arguments_of, constant, null, local, negated, arithmetic, truth, cell, allocate, get_char, call, stop}
 use Rattle.px_syntax.specs.TypedViews.{typed_expression, typed_argument, typed_condition, arithmetic_link, calculated, cells}
 use Rattle.px_syntax.proofs.TypedEquations.{typed-Arithmetic, typed-Stop}
 use Rattle.px_meaning.proofs.TreesSeen.{arithmetic_seen, cell_seen, call_seen, erased_seen, stop_seen}

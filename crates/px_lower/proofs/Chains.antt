@@ -3,7 +3,7 @@ use Rattle.std.specs.Prelude.{⊤}
 use Rattle.std.proofs.Common.{◌≡◌, ◌∙◌, ℕ, suc, ◌<◌, ◌≤◌, ◌+◌, List, [], ◌∷◌, ◌++◌, length, drop, get_or, map, Option, None, Some, Result, Ok, Err, refl, sym, ap, subst, append_assoc, append-nil}
 use Rattle.px_core.specs.declared.command.Operand.{Operand}
 use Rattle.px_core.specs.declared.command.Operand.TheVariants.{Slot}
-use Rattle.px_core.specs.CommandTree.{CommandTree, assign, load, read, commands_of}
+use Rattle.px_core.specs.CommandTree.{CommandTree, load, read}
 use Rattle.px_core.specs.CommandTree as command
 use Rattle.px_base.specs.declared.trace.Site.{Site}
 use Rattle.px_syntax.specs.declared.typed_expression.Arithmetic.{Arithmetic}
@@ -19,7 +19,7 @@ use Rattle.px_lower.specs.declared.put.Given.{Given}
 use Rattle.px_lower.specs.declared.put.Decided.{Decided}
 use Rattle.px_lower.specs.declared.put.Halt.{Halt}
 use Rattle.px_lower.specs.declared.put.Halt.TheVariants.{Stopped, NoMemory}
-use Rattle.px_lower.specs.Lowering.{Lowered, made_of, before as behind, and_then, ready, doing, giving, deciding, loaded, reached, copied, and_rest, or_rest, lowered_expression, lowered_arguments, lowered_passed, lowered_condition, comparison, applied, operation, result_slot}
+use Rattle.px_lower.specs.Lowering.{Lowered, made_of, before as behind, and_then, ready, doing, deciding, loaded, reached, copied, and_rest, or_rest, lowered_expression, lowered_arguments, lowered_passed, lowered_condition, comparison, applied, operation, result_slot}
 use Rattle.px_lower.specs.Chains.{Puts, Gives, Decides}
 use Rattle.px_lower.proofs.Sequences.{then_assoc}
 

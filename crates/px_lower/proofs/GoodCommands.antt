@@ -22,7 +22,7 @@ use Rattle.px_meaning.specs.TypedProgram.{TypedProgram}
 use Rattle.px_meaning.proofs.TypedSteps.{none_fits, one_fits}
 use Rattle.px_meaning.specs.TreeTypes.{LocalTypes, type_of_cell, AgreesWith, IsOf, AreOf, ArePassed, IsCondition, IsPlaceOf, IsConditionIf, IsDeclared, IsReturned, IsStep, AreSteps, IsStatement, AreStatements}
 use Rattle.px_meaning.proofs.TypedTrees.{defined_some}
-use Rattle.px_lower.specs.Lowering.{Lowered, and_then, doing, giving, copy, comparison, copied, loaded, reached, lowered_expression, lowered_arguments, lowered_passed, lowered_condition, lowered_declaration, lowered_assignment, lowered_update, lowered_access, lowered_head, lowered_return, lowered_statement, lowered_statements, applied, result_slot}
+use Rattle.px_lower.specs.Lowering.{Lowered, and_then, doing, copy, comparison, copied, loaded, reached, lowered_expression, lowered_arguments, lowered_passed, lowered_condition, lowered_declaration, lowered_assignment, lowered_update, lowered_access, lowered_head, lowered_return, lowered_statement, lowered_statements, applied, result_slot}
 use Rattle.px_lower.specs.LoweredProgram.{lowered, lowered_program}
 use Rattle.px_lower.proofs.NewSlots.{NewSlot, holding, an_outcome, Kinds, past_then, past_grows, split, Said, Slotted, alone, stopped, slotted_then, slotted_before}
 

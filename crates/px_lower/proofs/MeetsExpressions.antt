@@ -17,7 +17,7 @@ use Rattle.px_core.specs.declared.command.Operator.TheVariants.{Neg, Sub}
 use Rattle.px_core.specs.declared.command.Operator.TheVariants as core
 use Rattle.px_core.specs.declared.command.Comparison.{Comparison}
 use Rattle.px_core.specs.declared.command.Comparison.TheVariants as how
-use Rattle.px_core.specs.CommandTree.{CommandTree, CommandTrees, assign, read, load, malloc, input, no_commands, a_command, commands_of}
+use Rattle.px_core.specs.CommandTree.{CommandTree, CommandTrees, assign, read, load, malloc, input, no_commands, commands_of}
 use Rattle.px_core.specs.CommandTree as command
 use Rattle.px_syntax.specs.declared.typed_expression.Arithmetic.{Arithmetic}
 use Rattle.px_syntax.specs.declared.typed_expression.Arithmetic.TheVariants.{Add, Subtract, Multiply, Divide, Remainder}
@@ -35,7 +35,7 @@ use Rattle.px_meaning.specs.Steps.{ProcedureCalls, marking, by_pointer, by_writt
 use Rattle.px_meaning.specs.CoreCalls.{Behind}
 use Rattle.px_meaning.specs.TreeExecution.{by_outcome, gives, errs, Outcomes, yes, no, fault, Verdicts, RelationHolds, RelationFails, Uses, Loads, Reaches, Returns, CallsProcedure, Branches, Evaluates, EvaluatesAll, PassesAll, Tests, Outcome, division, calculation, Calculates}
 use Rattle.px_meaning.proofs.Determined.{after-append}
-use Rattle.px_lower.specs.Lowering.{Lowered, made_of, and_then, doing, reached, lowered_expression, lowered_arguments, lowered_passed, lowered_condition, comparison, copy, operation, result_slot}
+use Rattle.px_lower.specs.Lowering.{Lowered, made_of, and_then, doing, lowered_expression, lowered_arguments, lowered_passed, lowered_condition, comparison, copy, operation, result_slot}
 use Rattle.px_lower.specs.Lowering as lowering
 use Rattle.px_lower.specs.Scopes.{IsWithin, AreWithin, AreArgumentsWithin, IsTestWithin}
 use Rattle.px_lower.proofs.Ways.{Way, Meets, then', one_of, with', granted, on_such, on_written, on_pointer, on_new, on_input, on_call, ways, same, equal}

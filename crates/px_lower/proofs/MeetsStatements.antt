@@ -7,10 +7,10 @@ use Rattle.px_base.specs.declared.trace.MarkKind.TheVariants.{Iter, Done, Access
 use Rattle.px_base.specs.declared.trace.Kind.TheVariants.{NullDereference, UseAfterFree, DoubleFree}
 use Rattle.px_core.specs.declared.command.Operand.{Operand}
 use Rattle.px_core.specs.declared.command.Operand.TheVariants as operand
-use Rattle.px_core.specs.CommandTree.{CommandTree, CommandTrees, assign, unset, read, load, store, leave, no_commands, a_command, commands_of}
+use Rattle.px_core.specs.CommandTree.{CommandTree, assign, unset, store, leave, no_commands, a_command, commands_of}
 use Rattle.px_core.specs.CommandTree as command
 use Rattle.px_syntax.specs.declared.typed_expression.Arithmetic.{Arithmetic}
-use Rattle.px_syntax.specs.TypedTree.{Expression, get_char, Expressions, no_expressions, an_expression, Condition, Place, local_place, cell_place, Statement, block, declare, update, run_call, free, input, choose, loop, break, continue, return, evaluate, access, Statements, no_statements, a_statement}
+use Rattle.px_syntax.specs.TypedTree.{Expression, Expressions, no_expressions, an_expression, Condition, Place, local_place, cell_place, Statement, block, declare, update, run_call, free, input, choose, loop, break, continue, return, evaluate, access, Statements, no_statements, a_statement}
 use Rattle.px_syntax.specs.TypedTree as tree
 use Rattle.px_meaning.specs.Values.{TypeId, BlockType, Value, Word, Unwritten}
 use Rattle.px_meaning.specs.Heaps.{HeapMap, with_block}
@@ -22,7 +22,7 @@ use Rattle.px_core.specs.Control.{Item, Act, AfterHead, AfterBody, AfterStep, Tu
 use Rattle.px_meaning.specs.Steps.{ProcedureCalls, marking, by_pointer, live_block, freed_block, Allows, step}
 use Rattle.px_meaning.specs.CoreCalls.{Behind}
 use Rattle.px_meaning.specs.TreeExecution.{by_outcome, yes, no, fault, Verdicts, Exit, falls, breaks, continues, returns, fails, Exits, with_fall, behind_body, Stores, Frees, failing, Takes, Declares, Assigns, Updates, Accesses, TestsIf, Loops, GivesBack, Executes, ExecutesAll, Calculates}
-use Rattle.px_lower.specs.Lowering.{Lowered, and_then, doing, giving, reached, lowered_expression, lowered_arguments, lowered_passed, lowered_condition, lowered_declaration, lowered_assignment, lowered_update, lowered_access, lowered_head, lowered_return, lowered_statement, lowered_statements, copy, applied, operation, result_slot}
+use Rattle.px_lower.specs.Lowering.{Lowered, and_then, doing, reached, lowered_expression, lowered_arguments, lowered_passed, lowered_condition, lowered_declaration, lowered_assignment, lowered_update, lowered_access, lowered_head, lowered_return, lowered_statement, lowered_statements, copy, applied, operation, result_slot}
 use Rattle.px_lower.specs.Scopes.{IsWithin, AreWithin, IsWithinIf, IsTestWithinIf, IsPlaceWithin, IsStatementWithin, AreStatementsWithin}
 use Rattle.px_lower.proofs.Ways.{Way, down, up, Meets, then', with', on_some, on_pointer, on_input}
 use Rattle.px_core.proofs.Acts.{break_acts, continue_acts}

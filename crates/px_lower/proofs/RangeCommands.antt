@@ -16,7 +16,7 @@ use Rattle.px_syntax.specs.declared.typed_expression.Arithmetic.TheVariants.{Add
 use Rattle.px_meaning.specs.Values.{ValueType, Int, Pointer}
 use Rattle.px_meaning.specs.TypedProgram.{TypedProgram}
 use Rattle.px_meaning.specs.TreeTypes.{LocalTypes, IsOf, AreOf, ArePassed, IsCondition, IsPlaceOf, IsConditionIf, IsDeclared, IsReturned, IsStatement, AreStatements}
-use Rattle.px_lower.specs.Lowering.{Lowered, and_then, giving, doing, copy, reached, copied, lowered_expression, lowered_arguments, lowered_passed, lowered_condition, comparison, lowered_declaration, lowered_assignment, lowered_update, lowered_head, lowered_return, lowered_statement, lowered_statements, applied, operation, result_slot}
+use Rattle.px_lower.specs.Lowering.{Lowered, and_then, doing, copy, reached, copied, lowered_expression, lowered_arguments, lowered_passed, lowered_condition, comparison, lowered_declaration, lowered_assignment, lowered_update, lowered_head, lowered_return, lowered_statement, lowered_statements, applied, operation, result_slot}
 use Rattle.px_lower.proofs.Sequences.{Holds, holds_then, holds_alone}
 
 zero_fits : FitsSigned w32 (pos 0)

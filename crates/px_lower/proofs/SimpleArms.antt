@@ -9,7 +9,7 @@ use Rattle.px_base.specs.declared.trace.FieldId.{FieldId}
 use Rattle.px_terms.specs.declared.types.TypeId.{TypeId}
 use Rattle.px_core.specs.declared.command.Operand.{Operand}
 use Rattle.px_core.specs.declared.command.Operand.TheVariants.{Slot}
-use Rattle.px_core.specs.CommandTree.{CommandTree, assign, unset, load, read, store, no_commands, a_command, commands_of, leave}
+use Rattle.px_core.specs.CommandTree.{CommandTree, unset, load, read, store, no_commands, a_command, commands_of, leave}
 use Rattle.px_core.specs.CommandTree as command
 use Rattle.px_syntax.specs.declared.typed_expression.Arithmetic.{Arithmetic}
 use Rattle.px_syntax.specs.declared.typed_expression.CellLink.{CellLink}
@@ -18,14 +18,14 @@ use Rattle.px_syntax.specs.declared.typed_expression.Condition.{Condition}
 use Rattle.px_syntax.specs.declared.typed_statement.Place.{Place}
 use Rattle.px_syntax.specs.declared.typed_statement.Place.TheVariants as P
 use Rattle.px_syntax.specs.declared.typed_statement.TypedStatement.{TypedStatement}
-use Rattle.px_syntax.specs.TypedTree.{Expression, Expressions, Arguments, Condition as Test, local_place, cell_place, Statement, statements_of}
+use Rattle.px_syntax.specs.TypedTree.{Expression, Expressions, Arguments, Condition as Test, cell_place, Statement, statements_of}
 use Rattle.px_syntax.specs.TypedTree as tree
 use Rattle.px_syntax.specs.TypedViews.{typed_expression, typed_condition, typed_place, typed_statement}
 use Rattle.px_lower.specs.declared.put.Given.{Given}
 use Rattle.px_lower.specs.declared.put.Decided.{Decided}
 use Rattle.px_lower.specs.declared.put.Halt.{Halt}
 use Rattle.px_lower.specs.declared.commands.Operands.{Operands}
-use Rattle.px_lower.specs.Lowering.{Lowered, and_then, doing, giving, loaded, reached, copy, lowered_expression, lowered_arguments, lowered_passed, lowered_condition, lowered_declaration, lowered_assignment, lowered_update, lowered_access, lowered_head, lowered_return, lowered_statement, lowered_statements, applied, operation, result_slot}
+use Rattle.px_lower.specs.Lowering.{Lowered, and_then, doing, loaded, reached, copy, lowered_expression, lowered_arguments, lowered_passed, lowered_condition, lowered_declaration, lowered_assignment, lowered_update, lowered_access, lowered_head, lowered_return, lowered_statement, lowered_statements, applied, operation, result_slot}
 use Rattle.px_lower.specs.Chains.{Gives, GivesAll, Decides, Does, Ends}
 use Rattle.px_lower.proofs.Chains.{fails_first, goes_on, next_one}
 use Rattle.px_lower.proofs.Arms.{IsErr, begun, slot, nothing, itself, ends_with_value, goes_on_with_value, ends_with_outcome, goes_on_with_outcome, ends_with_arguments, goes_on_with_arguments, ends_there, goes_on_there}

@@ -9,7 +9,7 @@ use Rattle.px_syntax.specs.declared.typed_expression.Arithmetic.TheVariants.{Add
 use Rattle.px_syntax.specs.ExpressionTree as E
 use Rattle.px_syntax.specs.ExpressionTree.{ExpressionTree}
 use Rattle.px_syntax.specs.StatementTree as S
-use Rattle.px_syntax.specs.StatementTree.{InitTree, SimpleTree, FirstTree, StatementTree, StatementTrees}
+use Rattle.px_syntax.specs.StatementTree.{SimpleTree}
 use Rattle.px_syntax.specs.TypedTree as T
 use Rattle.px_syntax.specs.TypedTree.{Expression, Condition, Place, Statement}
 use Rattle.px_bodies.specs.Types.{given, int, same_type}

@@ -1,6 +1,6 @@
 -- The list that has each once, as one more is mentioned.
 use Rattle.std.proofs.Common.{◌≡◌, ℕ, zero, suc, ◌+◌, ◌<◌, ◌≤◌, List, [], ◌∷◌, ◌++◌, length, take, drop, get_or, Bool, true, false, cond, ◌||◌, Option, Some, None, is_some, refl, sym, ap, subst, ◌∙◌, append_assoc, arith}
-use Rattle.std.specs.Prelude.{filter, not, slice_get, nat_eq, nat_lt, option_and_then, ◌≢◌, ⊤}
+use Rattle.std.specs.Prelude.{filter, not, slice_get, nat_eq, nat_lt, ◌≢◌, ⊤}
 use Rattle.std.specs.Option.{option_map, option_eq}
 use Rattle.std.proofs.lemmas.Option.{same_Some, slice_get_within, slice_get-get_or}
 use Rattle.std.proofs.lemmas.Bool.Decides.{nat_tests}

@@ -1,5 +1,5 @@
 -- What is in range in a spelling of polynomials mentions those alone that fit there; it is in range in each other one where they fit.
-use Rattle.std.proofs.Common.{◌≡◌, ℕ, List, [], ◌∷◌, ◌++◌, Option, Some, None, sym, subst}
+use Rattle.std.proofs.Common.{ℕ, List, [], ◌∷◌, ◌++◌, Option, Some, None, sym, subst}
 use Rattle.std.specs.Prelude.{◌-◌, length, IfSome}
 use Rattle.px_base.specs.Bounds.{most_conjuncts, most_atoms}
 use Rattle.std.specs.List.{flat_map, AllByRecursion}

@@ -1,5 +1,5 @@
 -- Polynomials that are spelled by their places are read again.
-use Rattle.std.proofs.Common.{◌≡◌, ℕ, zero, suc, List, [], ◌∷◌, ◌++◌, Bool, true, false, cond, Option, Some, None, ◌≤◌, length, map, refl, sym, subst, ap, ap₂, ◌∙◌, arith}
+use Rattle.std.proofs.Common.{◌≡◌, ℕ, zero, suc, List, [], ◌∷◌, Bool, true, false, cond, Option, Some, None, ◌≤◌, length, map, refl, sym, subst, ap, ap₂, ◌∙◌, arith}
 use Rattle.std.specs.Prelude.{slice_get, filter, not, ◌≢◌}
 use Rattle.std.specs.List.{AllByRecursion, flat_map}
 use Rattle.std.specs.Option.{option_map}
@@ -15,8 +15,7 @@ use Rattle.px_terms.proofs.KeyOrder.{equal_parts}
 use Rattle.px_terms.specs.declared.conjuncts.Conj.TheVariants as J
 use Rattle.px_spelling.specs.Conjuncts.{conj_bytes}
 use Rattle.px_spelling.specs.Laws.{SharesOne}
-use Rattle.px_spelling.specs.Numbers.{u32_bytes, IsU32, u32_at}
-use Rattle.px_spelling.specs.ByPlace.{term_cmp, polynomial_cmp, is_same, OrdersPolynomials, distinct, Differ, place_in, named_at, IsFound, by_place}
+use Rattle.px_spelling.specs.ByPlace.{term_cmp, polynomial_cmp, is_same, distinct, Differ, place_in, IsFound, by_place}
 use Rattle.px_spelling.proofs.RoundTrip.{ReadsAs, RoundTrip, u32_round_trip}
 
 -- ---- the order

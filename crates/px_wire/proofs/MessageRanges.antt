@@ -1,7 +1,6 @@
 -- A message in range is so where each polynomial is sent once, and a message that is so is in range.
-use Rattle.std.specs.Prelude.{ℕ, List, length}
+use Rattle.std.specs.Prelude.{length}
 use Rattle.std.specs.List.{AllByRecursion}
-use Rattle.px_terms.specs.Polynomials.{Polynomial}
 use Rattle.px_base.specs.declared.trace.ProcId.{ProcId}
 use Rattle.px_callgraph.specs.declared.jobs.Callee.{Callee}
 use Rattle.px_spelling.specs.Numbers.{IsU32}

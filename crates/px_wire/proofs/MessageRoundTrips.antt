@@ -6,7 +6,7 @@ use Rattle.std.proofs.lemmas.Option.{same_Some}
 use Rattle.px_terms.specs.Polynomials.{Polynomial}
 use Rattle.px_spelling.specs.declared.fault.WireFault.{WireFault}
 use Rattle.px_spelling.specs.declared.fault.WireFault.TheVariants.{NotAMessage, NoMemory}
-use Rattle.px_spelling.specs.Reading.{Reader, ◌>>=◌, done, Fails}
+use Rattle.px_spelling.specs.Reading.{Reader, Fails}
 use Rattle.px_spelling.specs.Numbers.{u8_bytes, IsU8, u8_at, IsU32}
 use Rattle.px_spelling.specs.Lists.{list_bytes, list_at, any_number}
 use Rattle.px_spelling.specs.Polynomials.{polynomial_bytes, IsPolynomialInRange, polynomial_at, PolynomialSpelling, in_full}

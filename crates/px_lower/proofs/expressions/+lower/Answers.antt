@@ -1,14 +1,14 @@
-use Rattle.std.proofs.Common.{◌∙◌, ◌++◌, ◌∷◌, [], ◌+◌, map, drop, Some, Ok, Err, refl, sym, ap, subst, append-nil}
+use Rattle.std.proofs.Common.{◌∙◌, ◌++◌, ◌∷◌, [], ◌+◌, map, Some, Ok, Err, refl, sym, ap, subst, append-nil}
 use Rattle.std.proofs.lemmas.Result.{err_from_is_err_and}
 use Rattle.px_core.specs.CommandTree.{command_tree}
 use Rattle.px_core.proofs.CommandEquations.{tree-If, tree-Stop}
 use Rattle.px_syntax.specs.TypedTree.{no_expressions, an_expression}
 use Rattle.px_syntax.specs.TypedViews.{typed_expression, typed_condition, arithmetic_link, relation_link, calculated, compared, cells, all_of, any_of}
 use Rattle.px_lower.specs.Lowering.{copied, lowered_expression, lowered_passed, lowered_condition}
-use Rattle.px_lower.specs.Chains.{GivesAll, Does}
+use Rattle.px_lower.specs.Chains.{Does}
 use Rattle.px_lower.proofs.Chains.{calculated_step, calculated_stops, calculated_all, compared_step, compared_stops, compared_all, cells_step, cells_all, cells_fails, all_step, any_step, holds_all}
 use Rattle.px_lower.proofs.Arms.{handed_on, out_of_memory, operand, next, slot, after, operands, behind, nothing, itself, of_tree, negate_fails, negate_returns, first_operand_fails, left_operand_fails, right_operand_fails, arithmetic_returns, condition_fails, truth_returns, pointer_fails, cell_returns, passed_pointer_fails, passed_cell_returns, arguments_fail, call_returns, passed_arguments_fail, passed_call_returns, parts_fail, stop_returns, argument_handed_on, argument_without_memory, value_fails, value_returns, parts_done, plain_seen, passed_plain_fails, passed_plain_returns}
-use Rattle.px_lower.proofs.ConditionArms.{first_operand_fails as compare_first_fails, left_operand_fails as compare_left_fails, right_operand_fails as compare_right_fails, compare_returns, word_fails, word_compared, pointer_fails as pointer_test_fails, pointer_compared, opposite_fails, opposite_returns, first_and_fails, left_and_fails, and_returns, first_or_fails, left_or_fails, or_returns, and_puts, or_puts, outcome_fails, outcome_returns, passed_all, passed_more, passed_fails, passed_end, all_arguments, arguments_behind, arguments_begin, argument_more, argument_fails, arguments_end}
+use Rattle.px_lower.proofs.ConditionArms.{first_operand_fails as compare_first_fails, left_operand_fails as compare_left_fails, right_operand_fails as compare_right_fails, compare_returns, word_fails, word_compared, pointer_fails as pointer_test_fails, pointer_compared, opposite_fails, opposite_returns, first_and_fails, left_and_fails, and_returns, first_or_fails, left_or_fails, or_returns, and_puts, or_puts, outcome_fails, outcome_returns, passed_all, passed_more, passed_fails, passed_end, all_arguments, arguments_begin, argument_more, argument_fails, arguments_end}
 use Rattle.px_lower.proofs.expressions.+lower.Goals as goal
 
 pub expression-returns-in-Null : goal.expression-returns-in-Null

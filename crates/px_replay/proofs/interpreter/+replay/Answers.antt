@@ -1,7 +1,7 @@
 use Rattle.std.proofs.Common.{◌≡◌, ◌∙◌, List, [], ◌∷◌, ◌++◌, append-nil, refl, ap, map, drop, sym, subst, Ok, Err, Vec, Global, ap₂, true, false, Bool, ◌-◌, ◌<◌, arith, get_or, rules, ◌+◌, option_map}
 use Rattle.std.proofs.lemmas.Result.{err_from_is_err_and}
 use Rattle.px_meaning.specs.Values.{Value, Unwritten}
-use Rattle.px_syntax.specs.TypedTree.{expressions_of, arguments_of, no_arguments, an_argument, no_expressions, an_expression, stop, evaluate, statements_of, Statement, run_call, free, access, choose, arithmetic, cell, call, compare, both, either, negated, truth, word, pointer, opposite, block, assign, update, loop}
+use Rattle.px_syntax.specs.TypedTree.{expressions_of, arguments_of, no_arguments, an_argument, no_expressions, an_expression, stop, evaluate, statements_of, run_call, free, access, choose, arithmetic, cell, call, compare, both, either, negated, truth, word, pointer, opposite, block, assign, update, loop}
 use Rattle.px_syntax.specs.TypedViews.{typed_expression, typed_argument, typed_statement, typed_condition, typed_place, arithmetic_link, relation_link, calculated, compared, cells, all_of, any_of}
 use Rattle.px_replay.specs.declared.flow.Flow.{Flow}
 use Rattle.px_replay.specs.Script.{plain_script, UnlessMemory, and_then, answers}

@@ -1,4 +1,4 @@
-use Rattle.std.proofs.Common.{◌≡◌, ◌<◌, ◌≤◌, length, true, false, refl, arith}
+use Rattle.std.proofs.Common.{◌≡◌, ◌<◌, ◌≤◌, length, true, refl, arith}
 use Rattle.px_spelling.specs.ByPlace.{is_first_at}
 use Rattle.px_spelling.proofs.Growing.{nought, differ_first, firsts_differ, all_first}
 use Rattle.px_spelling.proofs.term_list.do_differ.Goals as goal

@@ -1,4 +1,4 @@
-use Rattle.std.proofs.Common.{ℕ, List, ◌++◌}
+use Rattle.std.proofs.Common.{◌++◌}
 use Rattle.px_spelling.specs.Numbers.{u8_bytes, u64_bytes}
 use Rattle.px_spelling.specs.Lists.{list_bytes}
 use Rattle.px_spelling.specs.Tables.{table_bytes}

@@ -1,8 +1,8 @@
-use Rattle.std.proofs.Common.{◌≡◌, ◌<◌, ◌≤◌, List, length, map, take, get_or, true, false, Some, None, sym, ap, ◌∙◌, arith, rules}
+use Rattle.std.proofs.Common.{◌≡◌, ◌<◌, List, length, map, get_or, Some, None, sym, ap, ◌∙◌, arith}
 use Rattle.std.proofs.lemmas.List.{length-map, get_or-map}
 use Rattle.px_terms.specs.Polynomials.{Polynomial}
-use Rattle.px_spelling.specs.ByPlace.{place_in, distinct}
-use Rattle.px_spelling.proofs.Growing.{lists_old, lists_new, lists_other, lists_all}
+use Rattle.px_spelling.specs.ByPlace.{place_in}
+use Rattle.px_spelling.proofs.Growing.{lists_old, lists_new, lists_other}
 use Rattle.px_spelling.proofs.term_list.TermList.lists.Goals.{then-place-count-2, else-place-count-2}
 use Rattle.px_spelling.proofs.term_list.TermList.lists.Goals as goal
 
