@@ -1,11 +1,11 @@
 -- The workers of rounds, as plain data, and how their links stand in the numbers of a spawner.
-use Rattle.std.specs.Prelude.{◌≡◌, ◌⊎◌, ℕ, suc, ◌+◌, ◌-◌, ◌*◌, ◌^◌, ◌<◌, ◌≤◌, List, [], ◌∷◌, length, Option, Some, None, ⊤}
+use Rattle.std.specs.Prelude.{◌≡◌, ◌⊎◌, ℕ, suc, ◌+◌, ◌-◌, ◌*◌, ◌^◌, ◌<◌, ◌≤◌, List, [], ◌∷◌, ◌++◌, length, map, Option, Some, None, ⊤}
 use Rattle.std.specs.List.{AllByRecursion}
 use Rattle.px_io.specs.Faults.{Rose}
 use Rattle.px_pool.specs.Starts.{Numbers, TellsAlike}
 use Rattle.px_drivers.specs.declared.ends.Leaving.{Leaving}
 use Rattle.px_drivers.specs.declared.ends.Leaving.TheVariants.{Start, Losses, NoMemory}
-use Rattle.px_drivers.specs.Drivers.{DriverParts, published}
+use Rattle.px_drivers.specs.Drivers.{DriverParts, published, version_after}
 
 -- the drivers that go on; of the other workers, the receipts, and those that were left; and how many workers there may be, and how
 -- many of them may still join
@@ -55,6 +55,25 @@ for_losses NoMemory = 0
 -- how many workers were left for a cause
 abbrev pub left_so : (Leaving → ℕ) → List (ℕ × Leaving) → ℕ
 left_so counts left = total (λ x. counts x.1) left
+
+-- ---- versions
+
+-- the number of each driver's worker, and the version in which it is asked
+abbrev pub versions : List DriverParts → List (ℕ × ℕ)
+versions drivers = map (λ d. (d.number, d.version)) drivers
+
+-- each is asked in version 2
+abbrev pub AreShared : List DriverParts → Type 0
+AreShared drivers = AllByRecursion (λ x. x.1 ≡ 2) (versions drivers)
+
+-- The worker of a driver may go on behind these: then it is asked in the version that comes after this driver.
+abbrev pub MayGoOn : DriverParts → List DriverParts → List DriverParts → Type 0
+MayGoOn d before after = (versions after ≡ versions before) ⊎ (versions after ≡ versions before ++ (d.number, version_after d.version d.state) ∷ [])
+
+-- that of the first of these, if there is one
+abbrev pub FirstMayGoOn : List DriverParts → List DriverParts → Type 0
+FirstMayGoOn [] after = after ≡ []
+FirstMayGoOn (d ∷ drivers) after = MayGoOn d drivers after
 
 -- ---- the spawner
 

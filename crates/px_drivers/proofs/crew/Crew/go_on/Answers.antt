@@ -3,6 +3,7 @@ use Rattle.px_drivers.specs.declared.ends.Leaving.TheVariants.{Losses, NoMemory}
 use Rattle.px_drivers.specs.Drivers.{counted, published}
 use Rattle.px_drivers.specs.Crews.{standing}
 use Rattle.px_drivers.proofs.CrewLemmas.{joined_last, left_otherwise, retired, published_last}
+use Rattle.px_drivers.proofs.VersionLemmas.{next_is_known, goes_on_ready, goes_not, goes_on_again}
 use Rattle.px_drivers.proofs.crew.Crew.go_on.Goals as goal
 
 pub returns-in-Ready-clause-published : goal.returns-in-Ready-clause-published
@@ -43,3 +44,16 @@ returns-else-past-eq-MOST_LOSSES-clause-account g c a h =
     (standing (g.S.Spawner.told c.end-past-in-Lost.new.spawner) (g.S.Spawner.links c.end-past-in-Lost.new.spawner) (g.S.Spawner.count c.end-past-in-Lost.new.spawner))
     c.args.driver c.args.self.now.drivers c.args.self.now.receipts c.args.self.now.left (counted c.end-past-in-Lost.result.receipts) c.end-past-in-Lost.result.losses
     c.end-past-in-Lost.ensures.kept c.end-past-in-Lost.ensures.fewer c.end-past-in-Lost.ensures.count c.end-past-in-Lost.ensures.given c.end-past-in-Lost.ensures.losses c.end-past-in-Lost.ensures.receipts a h)
+
+-- ---- the version
+
+pub returns-in-Ready-clause-versions : goal.returns-in-Ready-clause-versions
+returns-in-Ready-clause-versions g c =
+    goes_on_ready c.args.driver c.args.self.now.drivers c.join.new.self.drivers (sym c.state.ensures ∙ c.in-Ready.is) c.join.ensures.drivers
+
+pub returns-in-NoMemory-clause-versions : goal.returns-in-NoMemory-clause-versions
+returns-in-NoMemory-clause-versions g c = goes_not c.args.driver c.args.self.now.drivers c.leave.new.self.drivers c.leave.ensures.drivers
+
+pub returns-then-past-eq-MOST_LOSSES-clause-versions : goal.returns-then-past-eq-MOST_LOSSES-clause-versions
+returns-then-past-eq-MOST_LOSSES-clause-versions g c =
+    goes_not c.args.driver c.args.self.now.drivers c.leave-then-past-eq-MOST_LOSSES.new.self.drivers c.leave-then-past-eq-MOST_LOSSES.ensures.drivers
