@@ -39,6 +39,9 @@ REPLY = bytes.fromhex(
     "00000001 00000000 00000000 00 00 00000000 00000000 00000000 00000000 00000000 00000000"
     "00000001 00000001 14 00000000"
 )
+# The same in version 2. They have no terms.
+SECOND_REQUEST = bytes.fromhex("0000003a 00 02 00000000") + REQUEST[6:]
+SECOND_REPLY = bytes.fromhex("00000048 01 02 00000000") + REPLY[6:]
 
 
 def report(name, line, function="f"):
@@ -244,6 +247,7 @@ def an_input_that_cant_be_read_is_status_3(trial):
 def a_worker_reads_all_of_its_input(trial):
     equal(trial.run("worker", stdin=given(REQUEST * 3)), (0, REPLY * 3, b""))
     equal(trial.run("worker", stdin=given(REQUEST * 2 + REQUEST[:-1])), (7, REPLY * 2, b"bad request at byte 116\n"))
+    equal(trial.run("worker", stdin=given(SECOND_REQUEST + REQUEST + SECOND_REQUEST)), (0, SECOND_REPLY + REPLY + SECOND_REPLY, b""))
     equal(trial.run("worker", stdin=given(b"\0\0")), (7, b"", b"bad request at byte 0\n"))
     read, write = os.pipe()
 

@@ -51,6 +51,7 @@ fn plan_of(alloc: Global, word: &str) -> Result<MixedPlan> {
 pub fn in_place(alloc: Global, dies_at: Option<u64>) -> MixedPlan {
     MixedPlan::InPlace(Plan {
         domains: Vec::new(alloc),
+        known: 2,
         dies_at,
     })
 }

@@ -25,7 +25,7 @@ fn table_of(alloc: Global, job: &Job) -> Result<Table> {
 // What an exchange gives over a link to a worker without domains that dies after so many bytes.
 fn outcome<R: Wait>(rt: &R, alloc: Global, asked: &Asked, dies_at: Option<u64>) -> Result<Outcome> {
     let job = asked.job()?;
-    let mut link = HonestLink::new(alloc, Vec::new(alloc), dies_at)?;
+    let mut link = HonestLink::new(alloc, Vec::new(alloc), 2, dies_at)?;
     new_links_are_in_step();
     exchanged(rt, alloc, &mut link, &job)
 }
@@ -82,7 +82,7 @@ pub fn dies<R: Wait>(rt: &R, alloc: Global, asked: &Asked) -> Result<String> {
 /// `worker-twice`: what a worker in place gives, and what it gives when it is asked again.
 pub fn twice<R: Wait>(rt: &R, alloc: Global, asked: &Asked) -> Result<String> {
     let job = asked.job()?;
-    let mut link = HonestLink::new(alloc, Vec::new(alloc), None)?;
+    let mut link = HonestLink::new(alloc, Vec::new(alloc), 2, None)?;
     new_links_are_in_step();
     let first = exchanged(rt, alloc, &mut link, &job)?;
     let said = compared(alloc, &first, &job)?;
