@@ -1,5 +1,5 @@
 -- A worker in place, and what its link gives.
-use Rattle.std.proofs.Common.{◌≡◌, refl, sym, subst, ◌∙◌, ap, arith, inl, true, false, ℕ, ◌+◌, ◌≤◌, min, List, [], ◌++◌, length}
+use Rattle.std.proofs.Common.{◌≡◌, refl, sym, subst, ◌∙◌, ap, arith, true, false, ℕ, ◌+◌, ◌≤◌, min, List, [], ◌++◌, length}
 use Rattle.std.specs.Prelude.{take, drop, Bool, ◌||◌, Option, Some, None, Err}
 use Rattle.std.proofs.lemmas.List.{append_assoc, append-nil, length-append, length-take, take-append-drop, take-append-le}
 use Rattle.std.proofs.Math.Seq.{take-add, take-append_seam}
@@ -150,10 +150,10 @@ kept_given known kinds sent written c stopped given count d few k = record { beg
 
 -- the worker's replies are its word, however many of the bytes were given
 pub word_kept : RepliesAreAnalyses → (known : ℕ) (kinds sent written : List ℕ) (given : ℕ) (ended : Bool) → IsBegun known kinds sent written → IsWordKept IsTable (Some (talk_of sent written given ended))
-word_kept law known kinds sent written given ended begun = λ n asked answer j t ds (asks, more, are_asked, at_asked) (gave, left, are_given, at_given) is_asked is_reply.
-    (law known kinds sent (take given written) (drop given written) asks gave more left n asked answer 1 j t ds
+word_kept law known kinds sent written given ended begun = λ n asked answer v j t ds (asks, more, are_asked, at_asked) (gave, left, are_given, at_given) is_asked is_reply.
+    (law known kinds sent (take given written) (drop given written) asks gave more left n asked answer v j t ds
     (subst (λ l. IsBegun known kinds sent l) (sym (take-append-drop given written)) begun) are_asked are_given at_asked at_given
-    (is_asked.0, is_asked.1, inl refl) (is_reply.0, is_reply.1, inl refl)).table
+    is_asked is_reply).table
 
 -- what was given is a beginning of what is owed
 pub begun_given : (known : ℕ) (kinds sent written : List ℕ) (given : ℕ) → IsBegun known kinds sent written → IsBegun known kinds sent (take given written)
