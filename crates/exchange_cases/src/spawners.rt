@@ -86,7 +86,7 @@ fn gated<R: Wait, S: Spawner>(
     };
     new_links_are_in_step();
     let is_sent = !is_partner_asked || partner.send(rt, asked.request()).is_ok();
-    let outcome = exchanged(rt, alloc, &mut link, &job);
+    let outcome = exchanged(rt, alloc, &mut link, &job, asked.version());
     spawner.end(rt, partner);
     spawner.end(rt, link);
     if !is_sent {
