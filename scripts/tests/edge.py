@@ -318,6 +318,28 @@ def a_child_is_the_program_with_one_word(trial):
         equal(file.read().splitlines(), [notes, "1", "worker"])
 
 
+def a_child_that_knows_version_1_alone_is_asked_in_it(trial):
+    """It ends at a request in version 2, and hands on what is in version 1."""
+    name = trial.file("a.c", BUG % b"f")
+    old = trial.script(
+        "old",
+        "exec python3 -c '\n"
+        "import os, subprocess\n"
+        'head = b""\n'
+        "while len(head) < 6:\n"
+        "    head += os.read(0, 6 - len(head))\n"
+        "if head[5] == 1:\n"
+        '    worker = subprocess.Popen([os.environ["PULSEX_PROGRAM"], "worker"], stdin=subprocess.PIPE)\n'
+        "    while head:\n"
+        "        worker.stdin.write(head)\n"
+        "        worker.stdin.flush()\n"
+        "        head = os.read(0, 65536)\n"
+        "'",
+    )
+    said = report("a.c", 1) + counts(1, 1)
+    equal(trial.with_worker(old, name, env={"PULSEX_PROGRAM": trial.program}), (1, said, stats(1, 0, 1)))
+
+
 def what_a_child_says_beside_its_replies_is_let_go(trial):
     name = trial.file("a.c", BUG % b"f")
     said = report("a.c", 1) + counts(1, 1)
@@ -385,6 +407,7 @@ TRIED = (
     each_domain_rules_something_out,
     a_child_is_sent_and_heard_whole,
     a_child_is_the_program_with_one_word,
+    a_child_that_knows_version_1_alone_is_asked_in_it,
     what_a_child_says_beside_its_replies_is_let_go,
     a_lost_child_is_killed_and_waited_for,
     a_child_that_is_left_is_ended,
