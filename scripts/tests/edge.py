@@ -326,9 +326,9 @@ def a_child_that_knows_version_1_alone_is_asked_in_it(trial):
         "exec python3 -c '\n"
         "import os, subprocess\n"
         'head = b""\n'
-        "while len(head) < 6:\n"
-        "    head += os.read(0, 6 - len(head))\n"
-        "if head[5] == 1:\n"
+        "while len(head) < 6 and (more := os.read(0, 6 - len(head))):\n"
+        "    head += more\n"
+        'if head[5:] == b"\\1":\n'
         '    worker = subprocess.Popen([os.environ["PULSEX_PROGRAM"], "worker"], stdin=subprocess.PIPE)\n'
         "    while head:\n"
         "        worker.stdin.write(head)\n"

@@ -37,7 +37,8 @@ pub(crate) fn request_terms(alloc: Global, job: &Job) -> Result<TermList, NoMemo
 {
     let mut all = Vec::new(alloc);
     add_callee_mentions(job.callees.as_slice(), &mut all)?;
-    distinct(alloc, &all)
+    let terms = distinct(alloc, &all)?;
+    Ok(terms)
 }
 
 /// Whether these are the terms of what is said.
