@@ -13,9 +13,12 @@ use Rattle.px_spelling.specs.Tables.{gap_bytes, most_rows}
 use Rattle.px_spelling.specs.Derivations.{derivation_bytes, derivation_at}
 use Rattle.px_parts.specs.declared.part.Part.{Part}
 use Rattle.px_parts.specs.declared.part.Part.TheVariants as P
+use Rattle.px_parts.specs.declared.next.Next.{Next}
+use Rattle.px_parts.specs.declared.steps.Given.{Given}
 use Rattle.px_parts.specs.Places.{Naming, listed, spelling, behind, Place, Start, Head, ListedHead, Large, EntryCount, Entries, DropCount, Drops, DerivationCount, Derivations, Over, IsOpened, opening_bytes}
 use Rattle.px_parts.specs.Reading.{opening_at, sender_at, listed_head_at, count_at, own_entry_at, own_drop_at}
 use Rattle.px_parts.specs.Stream.{sender_bytes, Comes, opening, head, listed_head, too_large, entry_count, entry, all_entries, drop_count, a_drop, all_drops, derivation_count, derivation, all_derivations, Arrives, IsStuck, those, Streams, stays, goes}
+use Rattle.px_parts.specs.Kept.{place_of, part_in, terms_behind}
 use Rattle.px_spelling.proofs.RoundTrip.{ReadsAs, u32_round_trip, u64_round_trip}
 use Rattle.px_spelling.proofs.DerivationRoundTrips.{derivation_round_trip}
 use Rattle.px_parts.proofs.ComesReads.{opening_reads, sender_reads, listed_head_reads, count_reads, entry_reads, drop_reads}
@@ -189,9 +192,11 @@ no_parts_yet p bytes = stays
 pub falls_on : (p q : Place) (bytes rest : List ℕ) → Arrives p bytes None q rest → rank q < rank p
 falls_on p q bytes rest (front, comes, is) = falls p q front comes
 
-pub falls_at : (p q : Place) (bytes rest : List ℕ) (x : Option Part) → x ≡ None → Arrives p bytes x q rest → rank q < rank p
-falls_at p q bytes rest None none arrives = falls_on p q bytes rest arrives
-falls_at p q bytes rest (Some x) none arrives = absurd cc
+-- where no part was given
+pub come_falls : (here then_here : Next) (ts : Option (List Polynomial)) (bytes rest : List ℕ) (x : Option Given) → x ≡ None → Arrives (place_of here ts) bytes (part_in x) (place_of then_here (terms_behind ts x)) rest →
+    rank (place_of then_here ts) < rank (place_of here ts)
+come_falls here then_here ts bytes rest None none arrives = falls_on (place_of here ts) (place_of then_here ts) bytes rest arrives
+come_falls here then_here ts bytes rest (Some x) none arrives = absurd cc
 
 -- the parts of more bytes begin with those of the first
 pub streams_begin : (p q : Place) (bytes rest more : List ℕ) (parts all : List Part) → Streams p bytes parts q rest → Streams p (bytes ++ more) all Over [] →
