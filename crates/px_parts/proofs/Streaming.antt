@@ -180,9 +180,6 @@ streams_then p q r bytes rest after parts others (goes {q = s} {after = behind} 
 pub then_comes : (p q r : Place) (bytes rest after : List ℕ) (x : Option Part) → Streams p bytes [] q rest → Arrives q rest x r after → Streams p bytes (those x) r after
 then_comes p q r bytes rest after x first arrives = streams_then p q r bytes rest after [] (those x) first (goes x arrives stays (sym (append-nil (those x))))
 
-pub then_part : (p q r : Place) (bytes rest after : List ℕ) (x : Part) → Streams p bytes [] q rest → Arrives q rest (Some x) r after → Streams p bytes (x ∷ []) r after
-then_part p q r bytes rest after x first arrives = then_comes p q r bytes rest after (Some x) first arrives
-
 pub then_count : (p q r : Place) (bytes rest after : List ℕ) → Streams p bytes [] q rest → Arrives q rest None r after → Streams p bytes [] r after
 then_count p q r bytes rest after first arrives = then_comes p q r bytes rest after None first arrives
 

@@ -10,7 +10,7 @@ use std::alloc::Global;
 
 /// The next part, where bytes hold it whole, and where the message goes on. Else where nothing more comes in them. These are the terms
 /// of the message, if it has a list of them.
-#[tactic(auto, using(crate::proofs::Streaming::then_part, crate::proofs::Streaming::then_count, crate::proofs::Streaming::no_parts_yet))]
+#[tactic(auto, using(crate::proofs::Streaming::then_comes, crate::proofs::Streaming::then_count, crate::proofs::Streaming::no_parts_yet))]
 pub(crate) fn find<'a>(
     alloc: Global,
     next: Next,
