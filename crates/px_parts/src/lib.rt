@@ -10,7 +10,7 @@ mod finding;
 mod form;
 mod heads;
 mod laws;
-mod naming;
+mod named;
 mod next;
 mod part;
 mod reader;

@@ -6,7 +6,7 @@ ghost use Rattle.px_parts.specs.Kept.{place_of, part_in, terms_behind};
 
 use crate::Part;
 use crate::heads::{read_count, read_drop, read_entry, read_opening, read_sender};
-use crate::naming::{are_all_named, named_after};
+use crate::named::{are_all_named, named_after};
 use crate::next::Next;
 use px_entry::Derivation;
 use px_spelling::{TermList, Wire, WireFault, read_items};
