@@ -12,7 +12,7 @@ use Rattle.px_pool.specs.Starts.{Numbers, Counts, TellsAlike, GaveFrames, Counts
 use Rattle.px_drivers.specs.declared.ends.Leaving.{Leaving}
 use Rattle.px_drivers.specs.declared.ends.Leaving.TheVariants.{Start}
 use Rattle.px_drivers.specs.Drivers.{DriverParts, counted, published, IsKept, IsDriven, AreDriven}
-use Rattle.px_drivers.specs.Crews.{total, in_all, of_former, links_of, for_start, for_losses, left_so, HaveLostFew, versions, Standing, Rises, RoseBy, CrewParts, IsAccountWith, IsAccountOf, IsAccount}
+use Rattle.px_drivers.specs.Crews.{total, in_all, of_former, links_of, for_start, for_losses, left_so, HaveLostFew, Standing, Rises, RoseBy, CrewParts, IsAccountWith, IsAccountOf, IsAccount}
 use Rattle.px_drivers.specs.Rounds.{IsEnd}
 use Rattle.px_terms.proofs.Recursion.{all_push}
 
@@ -329,17 +329,6 @@ links_on [] [] h = refl
 links_on [] (y ∷ ys) h = absurd h
 links_on (x ∷ xs) [] h = absurd h
 links_on (x ∷ xs) (y ∷ ys) h = let e : y.losses ≡ x.losses = h.0.later.losses in let s : total links_of ys ≡ total links_of xs = links_on xs ys h.1 in omega arith
-
-versions_on : (xs ys : List DriverParts) → AreDrivenOn xs ys → versions ys ≡ versions xs
-versions_on [] [] h = refl
-versions_on [] (y ∷ ys) h = absurd h
-versions_on (x ∷ xs) [] h = absurd h
-versions_on (x ∷ xs) (y ∷ ys) h =
-    ap (λ n. (n, y.version) ∷ versions ys) h.0.later.number ∙ ap (λ v. (x.number, v) ∷ versions ys) h.0.later.version
-    ∙ ap (λ l. (x.number, x.version) ∷ l) (versions_on xs ys h.1)
-
-pub versions_driven : (xs ys zs : List DriverParts) → AreDriven xs ys → zs ≡ ys → versions zs ≡ versions xs
-versions_driven xs ys zs driven is = ap versions is ∙ versions_on xs ys (driven_on xs ys driven.many driven.each)
 
 alike_driven : (q : Option Numbers) (xs ys : List DriverParts) → AreDrivenOn xs ys → AllByRecursion (λ (d : DriverParts). TellsAlike q d.told) xs → AllByRecursion (λ (d : DriverParts). TellsAlike q d.told) ys
 alike_driven q [] [] h alike = tt

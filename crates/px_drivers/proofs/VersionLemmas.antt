@@ -1,14 +1,12 @@
 -- In which version workers are asked.
 use Rattle.std.proofs.Common.{◌≡◌, ◌⊎◌, inl, inr, refl, sym, subst, ap, ◌∙◌, ℕ, zero, suc, List, [], ◌∷◌, ◌++◌, Bool, true, false}
-use Rattle.std.specs.List.{AllByRecursion}
-use Rattle.std.proofs.lemmas.List.{map_push}
 use Rattle.px_pieces.specs.declared.desk.Lost.{Lost as ALost}
 use Rattle.px_pieces.specs.declared.desk.Lost.TheVariants as L
 use Rattle.px_terms.proofs.Recursion.{all_push}
 use Rattle.px_drivers.specs.declared.driver.DriverState.{DriverState}
 use Rattle.px_drivers.specs.declared.driver.DriverState.TheVariants.{Ready, Lost, NoMemory}
 use Rattle.px_drivers.specs.Drivers.{DriverParts, version_past, version_after}
-use Rattle.px_drivers.specs.Crews.{versions, AreShared, MayGoOn, FirstMayGoOn}
+use Rattle.px_drivers.specs.Crews.{AreShared, Joins, MayGoOn, FirstMayGoOn}
 
 -- ---- the version of the next link
 
@@ -35,33 +33,31 @@ next_is_known v next s is known = subst (λ n. (n ≡ 1) ⊎ (n ≡ 2)) (sym is)
 -- ---- drivers that join
 
 -- one stands last now
-pub joined_versions : (d : DriverParts) (ds ds' : List DriverParts) (number version : ℕ) → ds' ≡ ds ++ d ∷ [] → d.number ≡ number → d.version ≡ version → versions ds' ≡ versions ds ++ (number, version) ∷ []
-joined_versions d ds ds' number version is number_is version_is =
-    ap versions is ∙ map_push (λ (x : DriverParts). (x.number, x.version)) ds d
-    ∙ ap (λ n. versions ds ++ (n, d.version) ∷ []) number_is ∙ ap (λ v. versions ds ++ (number, v) ∷ []) version_is
+pub joins : (d : DriverParts) (ds ds' : List DriverParts) (number version : ℕ) → ds' ≡ ds ++ d ∷ [] → d.number ≡ number → d.version ≡ version → Joins number version ds ds'
+joins d ds ds' number version is number_is version_is = (d, is, number_is, version_is)
 
 -- one more that is asked in version 2, or none more
-pub shared_more : (ds ds' : List DriverParts) (number : ℕ) (started : Bool) → (started ≡ true → versions ds' ≡ versions ds ++ (number, 2) ∷ []) → (started ≡ false → ds' ≡ ds) → AreShared ds → AreShared ds'
+pub shared_more : (ds ds' : List DriverParts) (number : ℕ) (started : Bool) → (started ≡ true → Joins number 2 ds ds') → (started ≡ false → ds' ≡ ds) → AreShared ds → AreShared ds'
 shared_more ds ds' number true asked left shared =
-    subst (AllByRecursion (λ (x : ℕ × ℕ). x.1 ≡ 2)) (sym (asked refl)) (all_push (λ (x : ℕ × ℕ). x.1 ≡ 2) (versions ds) (number, 2) shared refl)
+    let (d, is, _, two) = asked refl in subst AreShared (sym is) (all_push (λ (x : DriverParts). x.version ≡ 2) ds d shared two)
 shared_more ds ds' number false asked left shared = subst AreShared (sym (left refl)) shared
 
 -- ---- drivers after a round
 
 -- it goes on as it is
 pub goes_on_ready : (d : DriverParts) (ds ds' : List DriverParts) → d.state ≡ Ready → ds' ≡ ds ++ d ∷ [] → MayGoOn d ds ds'
-goes_on_ready d ds ds' ready is = inr (joined_versions d ds ds' d.number (version_after d.version d.state) is refl (sym (ap (λ s. version_after d.version s) ready)))
+goes_on_ready d ds ds' ready is = inr (d, is, refl, sym (ap (λ s. version_after d.version s) ready))
 
 -- its worker is left
 pub goes_not : (d : DriverParts) (ds ds' : List DriverParts) → ds' ≡ ds → MayGoOn d ds ds'
-goes_not d ds ds' is = inl (ap versions is)
+goes_not d ds ds' is = inl is
 
 -- its worker is started again, or left where it couldn't be
 pub goes_on_again : (d : DriverParts) (ds ds' : List DriverParts) (started : Bool) (number next : ℕ) → number ≡ d.number → next ≡ version_after d.version d.state →
-    (started ≡ true → versions ds' ≡ versions ds ++ (number, next) ∷ []) → (started ≡ false → ds' ≡ ds) → MayGoOn d ds ds'
+    (started ≡ true → Joins number next ds ds') → (started ≡ false → ds' ≡ ds) → MayGoOn d ds ds'
 goes_on_again d ds ds' true number next number_is is asked left =
-    inr (asked refl ∙ ap (λ n. versions ds ++ (n, next) ∷ []) number_is ∙ ap (λ v. versions ds ++ (d.number, v) ∷ []) is)
-goes_on_again d ds ds' false number next number_is is asked left = inl (ap versions (left refl))
+    let (e, behind, same_number, same_version) = asked refl in inr (e, behind, same_number ∙ number_is, same_version ∙ is)
+goes_on_again d ds ds' false number next number_is is asked left = inl (left refl)
 
 -- the first of drivers
 pub first_goes : (d : DriverParts) (olds ds ds' : List DriverParts) → olds ≡ d ∷ ds → MayGoOn d ds ds' → FirstMayGoOn olds ds'

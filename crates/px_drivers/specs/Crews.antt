@@ -1,5 +1,5 @@
 -- The workers of rounds, as plain data, and how their links stand in the numbers of a spawner.
-use Rattle.std.specs.Prelude.{◌≡◌, ◌⊎◌, ℕ, suc, ◌+◌, ◌-◌, ◌*◌, ◌^◌, ◌<◌, ◌≤◌, List, [], ◌∷◌, ◌++◌, length, map, Option, Some, None, ⊤}
+use Rattle.std.specs.Prelude.{◌≡◌, ◌⊎◌, ℕ, suc, ◌+◌, ◌-◌, ◌*◌, ◌^◌, ◌<◌, ◌≤◌, List, [], ◌∷◌, ◌++◌, length, Option, Some, None, ⊤}
 use Rattle.std.specs.List.{AllByRecursion}
 use Rattle.px_io.specs.Faults.{Rose}
 use Rattle.px_pool.specs.Starts.{Numbers, TellsAlike}
@@ -58,17 +58,17 @@ left_so counts left = total (λ x. counts x.1) left
 
 -- ---- versions
 
--- the number of each driver's worker, and the version in which it is asked
-abbrev pub versions : List DriverParts → List (ℕ × ℕ)
-versions drivers = map (λ d. (d.number, d.version)) drivers
-
 -- each is asked in version 2
 abbrev pub AreShared : List DriverParts → Type 0
-AreShared drivers = AllByRecursion (λ x. x.1 ≡ 2) (versions drivers)
+AreShared drivers = AllByRecursion (λ d. d.version ≡ 2) drivers
 
--- The worker of a driver may go on behind these: then it is asked in the version that comes after this driver.
+-- behind these drivers stands one more, of the worker with this number, which is asked in this version
+abbrev pub Joins : ℕ → ℕ → List DriverParts → List DriverParts → Type 0
+Joins number version before after = (d : DriverParts) × (after ≡ before ++ d ∷ []) × (d.number ≡ number) × (d.version ≡ version)
+
+-- The worker of a driver goes on behind these, asked in the version that comes after this driver; or it doesn't go on.
 abbrev pub MayGoOn : DriverParts → List DriverParts → List DriverParts → Type 0
-MayGoOn d before after = (versions after ≡ versions before) ⊎ (versions after ≡ versions before ++ (d.number, version_after d.version d.state) ∷ [])
+MayGoOn d before after = (after ≡ before) ⊎ Joins d.number (version_after d.version d.state) before after
 
 -- that of the first of these, if there is one
 abbrev pub FirstMayGoOn : List DriverParts → List DriverParts → Type 0

@@ -1,7 +1,7 @@
 ghost use Rattle.std.specs.Prelude.{◌≡◌, ◌⊎◌, ◌+◌, ◌∷◌, ◌++◌, ◌<◌, ◌≤◌, [], ℕ, true, false, length, IfOk, IfSome, IfNone};
 ghost use Rattle.px_pool.specs.Starts.{CountsEnded};
-ghost use Rattle.px_drivers.specs.Drivers.{counted, published, IsKept};
-ghost use Rattle.px_drivers.specs.Crews.{Standing, standing, in_all, all_published, versions, AreShared, MayGoOn, FirstMayGoOn, IsAccount, IsAccountOf, IsAccountWith};
+ghost use Rattle.px_drivers.specs.Drivers.{counted, published, IsKept, AreDriven};
+ghost use Rattle.px_drivers.specs.Crews.{Standing, standing, in_all, all_published, AreShared, Joins, MayGoOn, FirstMayGoOn, IsAccount, IsAccountOf, IsAccountWith};
 ghost use Rattle.px_drivers.specs.Rounds.{IsEnd};
 
 use crate::driver::{Past, next_version};
@@ -105,7 +105,7 @@ impl<S: Spawner, L: Ledger> Crew<S, L> {
         ensures room { self.new.room + 1 ≡ self.old.room }
         ensures links { length self.new.drivers + S.links spawner.old ≡ length self.old.drivers + S.links spawner.new }
         ensures published { all_published self.new ≡ all_published self.old + counted past.receipts }
-        ensures asked { result ≡ true → versions self.new.drivers ≡ versions self.old.drivers ++ (number, version) ∷ [] }
+        ensures asked { result ≡ true → Joins number version self.old.drivers self.new.drivers }
         ensures left { result ≡ false → self.new.drivers ≡ self.old.drivers }
         ensures account { (a : Standing) → IsAccountOf a (standing (S.told spawner.old) (S.links spawner.old) (S.count spawner.old)) self.old.drivers (in_all self.old.receipts + counted past.receipts) self.old.left past.losses → IsAccount a (standing (S.told spawner.new) (S.links spawner.new) (S.count spawner.new)) self.new }
     {
@@ -292,7 +292,7 @@ impl<S: Spawner, L: Ledger + Send + Sync> Crew<S, L> {
         wake: &Condvar,
     )
         ensures workers { self.new.workers ≡ self.old.workers }
-        ensures versions { versions self.new.drivers ≡ versions self.old.drivers }
+        ensures driven { AreDriven self.old.drivers self.new.drivers }
         ensures account { (a b : Standing) → IsAccount a b self.old → IsAccount a b self.new }
     {
         round(rt, alloc, book, wake, &mut self.drivers);

@@ -3,7 +3,7 @@ use Rattle.px_pool.specs.Starts.{TellsAlike}
 use Rattle.px_drivers.specs.Drivers.{DriverParts, counted, published}
 use Rattle.px_drivers.specs.Crews.{standing}
 use Rattle.px_drivers.proofs.CrewLemmas.{hired, not_hired, published_last}
-use Rattle.px_drivers.proofs.VersionLemmas.{joined_versions}
+use Rattle.px_drivers.proofs.VersionLemmas.{joins}
 use Rattle.px_drivers.proofs.crew.Crew.hire.Goals as goal
 
 pub returns-in-Ok-clause-published : goal.returns-in-Ok-clause-published
@@ -32,5 +32,5 @@ returns-in-Err-clause-account g c =
 
 pub returns-in-Ok-clause-asked : goal.returns-in-Ok-clause-asked
 returns-in-Ok-clause-asked g c yes =
-    joined_versions c.again.result c.args.self.now.drivers c.join.new.self.drivers c.args.number c.args.version c.join.ensures.drivers
+    joins c.again.result c.args.self.now.drivers c.join.new.self.drivers c.args.number c.args.version c.join.ensures.drivers
     (ap (λ (x : DriverParts). x.number) c.again.ensures) (ap (λ (x : DriverParts). x.version) c.again.ensures)
