@@ -1,12 +1,13 @@
 -- In which version workers are asked.
-use Rattle.std.proofs.Common.{◌≡◌, ◌⊎◌, inl, inr, refl, sym, subst, ap, ◌∙◌, ℕ, zero, suc, List, [], ◌∷◌, ◌++◌, Bool, true, false}
+use Rattle.std.proofs.Common.{◌≡◌, ◌⊎◌, inl, inr, refl, sym, subst, ap, ◌∙◌, arith, ℕ, zero, suc, ◌+◌, ◌<◌, ◌≤◌, List, [], ◌∷◌, ◌++◌, length, length-append, append_assoc, append-nil, Bool, true, false}
+use Rattle.std.proofs.lemmas.List.{nil_from_length}
 use Rattle.px_pieces.specs.declared.desk.Lost.{Lost as ALost}
 use Rattle.px_pieces.specs.declared.desk.Lost.TheVariants as L
 use Rattle.px_terms.proofs.Recursion.{all_push}
 use Rattle.px_drivers.specs.declared.driver.DriverState.{DriverState}
 use Rattle.px_drivers.specs.declared.driver.DriverState.TheVariants.{Ready, Lost, NoMemory}
 use Rattle.px_drivers.specs.Drivers.{DriverParts, version_past, version_after}
-use Rattle.px_drivers.specs.Crews.{AreShared, Joins, MayGoOn, FirstMayGoOn}
+use Rattle.px_drivers.specs.Crews.{AreShared, Joins, MayGoOn, FirstMayGoOn, GoOn}
 
 -- ---- the version of the next link
 
@@ -65,3 +66,60 @@ first_goes d olds ds ds' is goes = subst (λ l. FirstMayGoOn l ds') (sym is) goe
 
 pub no_first : (olds ds' : List DriverParts) → olds ≡ [] → ds' ≡ olds → FirstMayGoOn olds ds'
 no_first olds ds' none same = subst (λ l. FirstMayGoOn l ds') (sym none) (same ∙ none)
+
+-- ---- one driver after another
+
+go_on_with : (xs ys : List DriverParts) (d e : DriverParts) → e.number ≡ d.number → e.version ≡ version_after d.version d.state → GoOn xs ys → GoOn (xs ++ d ∷ []) (ys ++ e ∷ [])
+go_on_with [] ys d e n v none = inr (e, [], ap (λ l. l ++ e ∷ []) none, n, v, refl)
+go_on_with (x ∷ xs) ys d e n v (inl h) = inl (go_on_with xs ys d e n v h)
+go_on_with (x ∷ xs) ys d e n v (inr (f, rest, is, m, w, h)) = inr (f, rest ++ e ∷ [], ap (λ l. l ++ e ∷ []) is, m, w, go_on_with xs rest d e n v h)
+
+go_on_without : (xs ys : List DriverParts) (d : DriverParts) → GoOn xs ys → GoOn (xs ++ d ∷ []) ys
+go_on_without [] ys d none = inl none
+go_on_without (x ∷ xs) ys d (inl h) = inl (go_on_without xs ys d h)
+go_on_without (x ∷ xs) ys d (inr (f, rest, is, m, w, h)) = inr (f, rest, is, m, w, go_on_without xs rest d h)
+
+-- So many of the drivers had their turn, and of them these go on, behind those that didn't.
+pub record AreTurning (olds now : List DriverParts) (done : ℕ) : Type 0 where
+  pub turned : List DriverParts
+  pub rest : List DriverParts
+  pub went : List DriverParts
+  pub all : olds ≡ turned ++ rest
+  pub many : length turned ≡ done
+  pub stand : now ≡ rest ++ went
+  pub on : GoOn turned went
+
+pub turning_begins : (olds : List DriverParts) → AreTurning olds olds 0
+turning_begins olds = record { turned = []; rest = olds; went = []; all = refl; many = refl; stand = sym (append-nil olds); on = refl }
+
+pub one_turned : (olds now after : List DriverParts) (done : ℕ) → done < length olds → AreTurning olds now done → FirstMayGoOn now after → AreTurning olds after (done + 1)
+one_turned olds now after done some h first = by h.rest h.all h.stand (subst (λ l. FirstMayGoOn l after) h.stand first)
+  where
+    by : (rest : List DriverParts) → olds ≡ h.turned ++ rest → now ≡ rest ++ h.went → FirstMayGoOn (rest ++ h.went) after → AreTurning olds after (done + 1)
+    by [] all stand goes = absurd (omega (arith, some, h.many, ap length all, ap length (append-nil h.turned)))
+    by (d ∷ rest) all stand (inl is) = record {
+      turned = h.turned ++ d ∷ [];
+      rest = rest;
+      went = h.went;
+      all = all ∙ sym (append_assoc h.turned (d ∷ []) rest);
+      many = length-append h.turned (d ∷ []) ∙ ap (λ n. n + 1) h.many;
+      stand = is;
+      on = go_on_without h.turned h.went d h.on;
+    }
+    by (d ∷ rest) all stand (inr (e, is, n, v)) = record {
+      turned = h.turned ++ d ∷ [];
+      rest = rest;
+      went = h.went ++ e ∷ [];
+      all = all ∙ sym (append_assoc h.turned (d ∷ []) rest);
+      many = length-append h.turned (d ∷ []) ∙ ap (λ n. n + 1) h.many;
+      stand = is ∙ append_assoc rest h.went (e ∷ []);
+      on = go_on_with h.turned h.went d e n v h.on;
+    }
+
+pub all_turned : (olds now : List DriverParts) (done : ℕ) → length olds ≤ done → AreTurning olds now done → GoOn olds now
+all_turned olds now done up h =
+    let none : length h.rest ≡ 0 = omega (arith, up, h.many, ap length h.all, length-append h.turned h.rest) in
+    let empty : h.rest ≡ [] = nil_from_length h.rest none in
+    let same : olds ≡ h.turned = h.all ∙ ap (λ l. h.turned ++ l) empty ∙ append-nil h.turned in
+    let stood : now ≡ h.went = h.stand ∙ ap (λ l. l ++ h.went) empty in
+    subst (λ l. GoOn l now) (sym same) (subst (λ l. GoOn h.turned l) (sym stood) h.on)

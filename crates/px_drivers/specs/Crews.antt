@@ -75,6 +75,13 @@ abbrev pub FirstMayGoOn : List DriverParts → List DriverParts → Type 0
 FirstMayGoOn [] after = after ≡ []
 FirstMayGoOn (d ∷ drivers) after = MayGoOn d drivers after
 
+-- Of these drivers some workers go on, in their order, each asked in the version that comes after its driver.
+abbrev pub GoOn : List DriverParts → List DriverParts → Type 0
+GoOn [] after = after ≡ []
+GoOn (d ∷ drivers) after =
+    GoOn drivers after
+    ⊎ ((e : DriverParts) × (rest : List DriverParts) × (after ≡ e ∷ rest) × (e.number ≡ d.number) × (e.version ≡ version_after d.version d.state) × GoOn drivers rest)
+
 -- ---- the spawner
 
 -- a spawner: what it tells, how many of its links run, and how often a start has failed

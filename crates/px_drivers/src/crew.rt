@@ -1,7 +1,7 @@
 ghost use Rattle.std.specs.Prelude.{◌≡◌, ◌⊎◌, ◌+◌, ◌∷◌, ◌++◌, ◌<◌, ◌≤◌, [], ℕ, true, false, length, IfOk, IfSome, IfNone};
 ghost use Rattle.px_pool.specs.Starts.{CountsEnded};
 ghost use Rattle.px_drivers.specs.Drivers.{counted, published, IsKept, AreDriven};
-ghost use Rattle.px_drivers.specs.Crews.{Standing, standing, in_all, all_published, AreShared, Joins, MayGoOn, FirstMayGoOn, IsAccount, IsAccountOf, IsAccountWith};
+ghost use Rattle.px_drivers.specs.Crews.{Standing, standing, in_all, all_published, AreShared, Joins, MayGoOn, FirstMayGoOn, GoOn, IsAccount, IsAccountOf, IsAccountWith};
 ghost use Rattle.px_drivers.specs.Rounds.{IsEnd};
 
 use crate::driver::{Past, next_version};
@@ -172,10 +172,11 @@ impl<S: Spawner, L: Ledger> Crew<S, L> {
         requires links { length self.old.drivers ≤ S.links spawner.old }
         ensures links { length self.new.drivers ≤ S.links spawner.new }
         ensures workers { self.new.workers ≡ self.old.workers }
+        ensures versions { GoOn self.old.drivers self.new.drivers }
         ensures account { (a : Standing) → IsAccount a (standing (S.told spawner.old) (S.links spawner.old) (S.count spawner.old)) self.old → IsAccount a (standing (S.told spawner.new) (S.links spawner.new) (S.count spawner.new)) self.new }
     {
         let mut some = false;
-        for _ in 0..self.drivers.len() {
+        for done in 0..self.drivers.len() {
             some |= self.first_goes_on(rt, spawner, program);
         }
         some
