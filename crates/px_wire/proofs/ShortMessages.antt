@@ -11,7 +11,7 @@ use Rattle.px_spelling.specs.Polynomials.{polynomial_bytes}
 use Rattle.px_spelling.specs.ByPlace.{by_place}
 use Rattle.px_wire.specs.Messages.{MessageTree, request, reply, large, fields_bytes, message_bytes}
 use Rattle.px_wire.specs.Mentions.{terms_of}
-use Rattle.px_wire.specs.Versions.{terms_bytes, shared_bytes, bytes_in, HasVersion}
+use Rattle.px_wire.specs.Versions.{shared_bytes, bytes_in, HasVersion}
 
 -- in a version that isn't 2
 other_bytes : (number : ℕ) (m : MessageTree) → ¬ (number ≡ 2) → bytes_in number m ≡ message_bytes m
