@@ -66,7 +66,7 @@ impl Asked {
     pub fn version(&self) -> u8
         ensures { (result ≡ 1) ⊎ (result ≡ 2) }
     {
-        if self.request.get(1) == Some(&SHARED) {
+        if self.request.get(1).copied() == Some(SHARED) {
             SHARED
         } else {
             VERSION
