@@ -51,11 +51,12 @@ module _ (o : Option (List Polynomial)) (bytes : List ℕ) (parts : List Part) w
       let front_first : IsFront o ms = front_before o ms own front_own in
       let k = after o ms in
       let same : spelling k ≡ p = spelled_after o ms in
-      goes (Some (P.Drop g))
-      (gap_bytes p g,
-      a_drop (length gs) k (after o (ms ++ own)) g (gap_bytes p g) (subst (λ q. IsGap q g) (sym same) all.0) both.0 (in_order o ms own front_first front_own) (sym (behind_after o ms own front_first))
-      (ap (λ q. gap_bytes q g) (sym same)),
-      ap (λ l. l ++ bytes) (flat_map-cons (gap_bytes p) g gs) ∙ append_assoc (gap_bytes p g) (flat_map (gap_bytes p) gs) bytes)
+      goes (Some (P.Drop g)) (
+        gap_bytes p g,
+        a_drop (length gs) k (after o (ms ++ own)) g (gap_bytes p g) (subst (λ q. IsGap q g) (sym same) all.0) both.0 (in_order o ms own front_first front_own) (sym (behind_after o ms own front_first))
+            (ap (λ q. gap_bytes q g) (sym same)),
+        ap (λ l. l ++ bytes) (flat_map-cons (gap_bytes p) g gs) ∙ append_assoc (gap_bytes p g) (flat_map (gap_bytes p) gs) bytes,
+      )
       (drops_stream (ms ++ own) gs all.1 both.1 front_all (subst (λ l. AllNamed (after o l)) joined named) next) refl
 
   entries_stream : (r : ℕ) (ms : List Polynomial) (es : List Entry) → AllByRecursion (IsEntry (spelling_by o)) es → list_all (entry_within any_types) es ≡ true → IsFront o (ms ++ flat_map entry_mentions es) →
@@ -73,11 +74,12 @@ module _ (o : Option (List Polynomial)) (bytes : List ℕ) (parts : List Part) w
       let front_first : IsFront o ms = front_before o ms own front_own in
       let k = after o ms in
       let same : spelling k ≡ p = spelled_after o ms in
-      goes (Some (P.Entry e))
-      (entry_bytes p e,
-      entry (length es) r k (after o (ms ++ own)) e (entry_bytes p e) (subst (λ q. IsEntry q e) (sym same) all.0) both.0 (in_order o ms own front_first front_own) (sym (behind_after o ms own front_first))
-      (ap (λ q. entry_bytes q e) (sym same)),
-      ap (λ l. l ++ bytes) (flat_map-cons (entry_bytes p) e es) ∙ append_assoc (entry_bytes p e) (flat_map (entry_bytes p) es) bytes)
+      goes (Some (P.Entry e)) (
+        entry_bytes p e,
+        entry (length es) r k (after o (ms ++ own)) e (entry_bytes p e) (subst (λ q. IsEntry q e) (sym same) all.0) both.0 (in_order o ms own front_first front_own) (sym (behind_after o ms own front_first))
+            (ap (λ q. entry_bytes q e) (sym same)),
+        ap (λ l. l ++ bytes) (flat_map-cons (entry_bytes p) e es) ∙ append_assoc (entry_bytes p e) (flat_map (entry_bytes p) es) bytes,
+      )
       (entries_stream r (ms ++ own) es all.1 both.1 front_all (subst (λ l. Streams (DropCount r (after o l)) bytes parts Over []) joined next)) refl
 
 -- the bytes of a table and of what stands behind it, list by list

@@ -307,10 +307,28 @@ said_large number ticket bytes after parts more known fits is are (no_more, no_a
     let all : bytes ≡ u64_bytes ticket = is ∙ ap (λ l. u64_bytes ticket ++ l) no_after ∙ append-nil (u64_bytes ticket) in
     let one : parts ≡ P.Large number ticket ∷ [] = are ∙ ap (λ l. P.Large number ticket ∷ l) no_more in
     ⊎_elim
-    (λ (first : number ≡ 1). (number, large ticket, tt, (
-      subst (λ v. 2 ∷ v ∷ bytes ≡ bytes_in v (large ticket)) (sym first) (ap (λ l. 2 ∷ 1 ∷ l) all), fits, inl first), sym one))
-    (λ (second : number ≡ 2). (number, large ticket, tt, (
-      subst (λ v. 2 ∷ v ∷ bytes ≡ bytes_in v (large ticket)) (sym second) (ap (λ l. 2 ∷ 2 ∷ l) all), fits, inr (second, few_none)), sym one))
+    (λ (first : number ≡ 1). (
+      number,
+      large ticket,
+      tt,
+      (
+        subst (λ v. 2 ∷ v ∷ bytes ≡ bytes_in v (large ticket)) (sym first) (ap (λ l. 2 ∷ 1 ∷ l) all),
+        fits,
+        inl first,
+      ),
+      sym one,
+    ))
+    (λ (second : number ≡ 2). (
+      number,
+      large ticket,
+      tt,
+      (
+        subst (λ v. 2 ∷ v ∷ bytes ≡ bytes_in v (large ticket)) (sym second) (ap (λ l. 2 ∷ 2 ∷ l) all),
+        fits,
+        inr (second, few_none),
+      ),
+      sym one,
+    ))
     known
 
 after_opening : (q : Place) (bytes : List ℕ) (parts : List Part) → IsOpened q → Streams q bytes parts Over [] → IsSpelled (opening_bytes q ++ bytes) parts

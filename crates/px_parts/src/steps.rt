@@ -200,7 +200,11 @@ fn next_drop<'a>(
     let (gap, rest) = read_drop(alloc, terms, bytes)?;
     let named = named_after(alloc, terms, named, &gap)?;
     let left = left - 1;
-    Ok((Some(Given::Row(Part::Drop(gap))), Next::Drops { left, named }, rest))
+    Ok((
+        Some(Given::Row(Part::Drop(gap))),
+        Next::Drops { left, named },
+        rest,
+    ))
 }
 
 #[tactic(auto, using(crate::proofs::Arrivals::derivation_count_arrives, crate::proofs::Arrivals::derivation_count_stuck))]
