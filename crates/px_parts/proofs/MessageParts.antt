@@ -1,5 +1,5 @@
 -- The bytes of a message hold its parts, in each version.
-use Rattle.std.proofs.Common.{◌≡◌, ◌⊎◌, inl, inr, ⊎_elim, ℕ, ◌-◌, ◌≤◌, List, [], ◌∷◌, ◌++◌, length, map, true, Option, Some, None, refl, sym, ap, subst, ◌∙◌, append_assoc, append-nil, arith}
+use Rattle.std.proofs.Common.{◌≡◌, ◌⊎◌, inl, inr, ⊎_elim, ℕ, ◌-◌, ◌<◌, ◌≤◌, ◌^◌, List, [], ◌∷◌, ◌++◌, length, map, true, Option, Some, None, refl, sym, ap, subst, ◌∙◌, append_assoc, append-nil, arith}
 use Rattle.std.specs.List.{flat_map, list_all, AllByRecursion}
 use Rattle.std.proofs.lemmas.Bool.{and_parts}
 use Rattle.std.proofs.lemmas.List.Concat.{flat_map-cons}
@@ -111,8 +111,8 @@ table_stream o table ds (are_entries, are_drops) within are_derivations front na
     subst (λ l. Streams (EntryCount (after o [])) l (table_parts table ds) Over [])
     (sym (by_lists (u32_bytes (length es)) (flat_map (entry_bytes p) es) (u32_bytes (length gs)) (flat_map (gap_bytes p) gs) tail)) counted
 
-few_terms : (n : ℕ) → IsU32 n → n ≤ any_number
-few_terms n few = omega arith
+pub few : (n : ℕ) → n < 2 ^ 32 → n ≤ any_number
+few n small = omega arith
 
 full_streams : (m : MessageTree) → IsReplying m → IsMessage m → Streams Start (bytes_in 1 m) (parts_of 1 m) Over []
 full_streams (request j) replying fits = absurd replying
@@ -127,11 +127,11 @@ full_streams (large ticket) replying is_ticket =
     (goes (Some (P.Large 1 ticket)) (u64_bytes ticket, too_large 1 ticket (u64_bytes ticket) is_ticket refl, sym (append-nil (u64_bytes ticket))) stays refl) refl
 
 shared_streams : (m : MessageTree) → IsReplying m → IsMessage m → IsU32 (length (terms_of m)) → Streams Start (bytes_in 2 m) (parts_of 2 m) Over []
-shared_streams (request j) replying fits few = absurd replying
-shared_streams (reply ticket kinds table ds) replying fits few =
+shared_streams (request j) replying fits small = absurd replying
+shared_streams (reply ticket kinds table ds) replying fits small =
     let m = reply ticket kinds table ds in
     let terms = terms_of m in
-    let said : IsSaid (by_place terms) m = by_terms m fits few in
+    let said : IsSaid (by_place terms) m = by_terms m fits small in
     let sender = sender_bytes ticket kinds in
     let spelled = list_bytes polynomial_bytes terms in
     let rest = table_bytes (by_place terms) table ++ list_bytes derivation_bytes ds in
@@ -139,9 +139,9 @@ shared_streams (reply ticket kinds table ds) replying fits few =
     ap (λ l. spelled ++ l) (append_assoc sender (table_bytes (by_place terms) table) (list_bytes derivation_bytes ds)) ∙ sym (append_assoc spelled sender rest) in
     goes None (1 ∷ 2 ∷ [], opening ListedHead (1 ∷ 2 ∷ []) tt refl, refl)
     (goes (Some (P.Head 2 ticket kinds))
-    (spelled ++ sender, listed_head terms ticket kinds (spelled ++ sender) ((few, few_terms (length terms) few, terms_fit m fits), all_differ (table_mentions table)) (said.0.0, said.0.1, said.1) refl, behind)
+    (spelled ++ sender, listed_head terms ticket kinds (spelled ++ sender) ((small, few (length terms) small, terms_fit m fits), all_differ (table_mentions table)) (said.0.0, said.0.1, said.1) refl, behind)
     (table_stream (Some terms) table ds said.0.2 said.2 said.0.3 (all_first terms (table_mentions table) refl) refl) refl) refl
-shared_streams (large ticket) replying is_ticket few =
+shared_streams (large ticket) replying is_ticket small =
     goes None (2 ∷ 2 ∷ [], opening (Large 2) (2 ∷ 2 ∷ []) (inr refl) refl, refl)
     (goes (Some (P.Large 2 ticket)) (u64_bytes ticket, too_large 2 ticket (u64_bytes ticket) is_ticket refl, sym (append-nil (u64_bytes ticket))) stays refl) refl
 

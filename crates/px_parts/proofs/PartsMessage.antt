@@ -29,7 +29,7 @@ use Rattle.px_parts.specs.Stream.{IsSender, sender_bytes, AreTerms, opening, hea
 use Rattle.px_parts.specs.Kept.{spelling_by}
 use Rattle.px_parts.proofs.Naming.{after as naming_after, IsFront, spelled_after, behind_after, front_on, none_first, all_named}
 use Rattle.px_parts.proofs.Stuck.{stuck_over}
-use Rattle.px_parts.proofs.MessageParts.{by_lists}
+use Rattle.px_parts.proofs.MessageParts.{few, by_lists}
 
 -- ---- derivations
 
@@ -63,9 +63,6 @@ record EndIsDerivations (bytes : List ℕ) (parts : List Part) : Type 0 where
   fit : IsList IsDerivation any_number ds
   spelled : bytes ≡ list_bytes derivation_bytes ds
   named : parts ≡ map P.Derivation ds
-
-few : (n : ℕ) → n < 2 ^ 32 → n ≤ any_number
-few n small = omega arith
 
 end_of : (bytes : List ℕ) (parts : List Part) → Streams DerivationCount bytes parts Over [] → EndIsDerivations bytes parts
 end_of bytes parts (goes {after = after} {more = more} _ (front, derivation_count n _ fits same, is) next are) =

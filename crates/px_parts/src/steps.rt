@@ -85,7 +85,7 @@ fn head<'a>(
 }
 
 // The list of terms is read with the head behind it.
-#[tactic(auto, using(crate::proofs::Arrivals::listed_head_arrives, crate::proofs::Arrivals::listed_head_stuck))]
+#[tactic(auto, using(crate::proofs::Arrivals::listed_head_arrives))]
 fn listed_head<'a>(
     alloc: Global,
     terms: &Option<TermList>,
