@@ -1,10 +1,13 @@
-use Rattle.std.proofs.Common.{◌≡◌, ◌<◌, List, length, map, get_or, Some, None, sym, ap, ◌∙◌, arith}
+use Rattle.std.proofs.Common.{◌≡◌, ◌<◌, List, [], length, map, get_or, Some, None, sym, ap, ◌∙◌, arith}
 use Rattle.std.proofs.lemmas.List.{length-map, get_or-map}
 use Rattle.px_terms.specs.Polynomials.{Polynomial}
 use Rattle.px_spelling.specs.ByPlace.{place_in}
-use Rattle.px_parts.proofs.Naming.{old_mention, next_mention, other_mention}
+use Rattle.px_parts.proofs.Naming.{at_first, old_mention, next_mention, other_mention}
 use Rattle.px_parts.proofs.named.count_named.Goals.{then-place-count-2, else-place-count-2}
 use Rattle.px_parts.proofs.named.count_named.Goals as goal
+
+pub loop-mention-init : goal.loop-mention-init
+loop-mention-init c = at_first c.args.terms.now [] c.args.named c.min-count.result c.len.ensures.differ (omega (arith, c.min-count.ensures, c.len.ensures.count))
 
 pub returns-in_default-clause-wrong : goal.returns-in_default-clause-wrong
 returns-in_default-clause-wrong c none =
