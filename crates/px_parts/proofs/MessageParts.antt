@@ -1,5 +1,5 @@
 -- The bytes of a message hold its parts, in each version.
-use Rattle.std.proofs.Common.{◌≡◌, ◌⊎◌, inl, inr, ⊎_elim, ℕ, ◌-◌, ◌<◌, ◌≤◌, ◌^◌, List, [], ◌∷◌, ◌++◌, length, map, true, Option, Some, None, refl, sym, ap, subst, ◌∙◌, append_assoc, append-nil, arith}
+use Rattle.std.proofs.Common.{◌≡◌, inl, inr, ⊎_elim, ℕ, ◌-◌, ◌<◌, ◌≤◌, ◌^◌, List, [], ◌∷◌, ◌++◌, length, map, true, Option, Some, None, refl, sym, ap, subst, ◌∙◌, append_assoc, append-nil, arith}
 use Rattle.std.specs.List.{flat_map, list_all, AllByRecursion}
 use Rattle.std.proofs.lemmas.Bool.{and_parts}
 use Rattle.std.proofs.lemmas.List.Concat.{flat_map-cons}
@@ -8,10 +8,10 @@ use Rattle.px_entry.specs.declared.entries.Entry.{Entry}
 use Rattle.px_entry.specs.declared.tables.Gap.{Gap}
 use Rattle.px_entry.specs.declared.tables.Table.{Table}
 use Rattle.px_entry.specs.declared.derivations.Derivation.{Derivation}
-use Rattle.px_spelling.specs.Numbers.{u8_bytes, u32_bytes, IsU32, u64_bytes}
+use Rattle.px_spelling.specs.Numbers.{u32_bytes, IsU32, u64_bytes}
 use Rattle.px_spelling.specs.Lists.{list_bytes, IsList, any_number}
-use Rattle.px_spelling.specs.Polynomials.{polynomial_bytes, PolynomialSpelling, in_full}
-use Rattle.px_spelling.specs.ByPlace.{distinct, by_place}
+use Rattle.px_spelling.specs.Polynomials.{polynomial_bytes, in_full}
+use Rattle.px_spelling.specs.ByPlace.{by_place}
 use Rattle.px_spelling.specs.Mentions.{entry_mentions, gap_mentions, table_mentions}
 use Rattle.px_spelling.specs.Entries.{entry_bytes, IsEntry}
 use Rattle.px_spelling.specs.Tables.{gap_bytes, IsGap, table_bytes, IsTable, most_rows}
@@ -24,7 +24,7 @@ use Rattle.px_wire.specs.Versions.{bytes_in, HasVersion}
 use Rattle.px_wire.proofs.MessageRanges.{by_terms, terms_fit}
 use Rattle.px_parts.specs.declared.part.Part.{Part}
 use Rattle.px_parts.specs.declared.part.Part.TheVariants as P
-use Rattle.px_parts.specs.Places.{Naming, full, listed, spelling, AllNamed, Start, Head, ListedHead, Large, EntryCount, Entries, DropCount, Drops, DerivationCount, Derivations, Over}
+use Rattle.px_parts.specs.Places.{spelling, AllNamed, Start, Head, ListedHead, Large, EntryCount, Entries, DropCount, Drops, DerivationCount, Derivations, Over}
 use Rattle.px_parts.specs.Parts.{table_parts, parts_of, IsReplying}
 use Rattle.px_parts.specs.Stream.{sender_bytes, opening, head, listed_head, too_large, entry_count, entry, all_entries, drop_count, a_drop, all_drops, derivation_count, derivation, all_derivations, Streams, stays, goes}
 use Rattle.px_parts.specs.Kept.{spelling_by}

@@ -1,5 +1,5 @@
 -- Bytes that hold parts to the end of a message are that message, in the version that they say.
-use Rattle.std.proofs.Common.{◌≡◌, ◌⊎◌, inl, inr, ⊎_elim, ℕ, suc, ◌-◌, ◌<◌, ◌≤◌, ◌^◌, List, [], ◌∷◌, ◌++◌, length, map, true, Option, Some, None, refl, sym, ap, subst, ◌∙◌, append_assoc, append-nil, arith}
+use Rattle.std.proofs.Common.{◌≡◌, inl, inr, ⊎_elim, ℕ, suc, ◌-◌, ◌≤◌, List, [], ◌∷◌, ◌++◌, length, map, true, Option, Some, None, refl, sym, ap, subst, ◌∙◌, append_assoc, append-nil, arith}
 use Rattle.std.specs.List.{flat_map, list_all, AllByRecursion}
 use Rattle.std.proofs.lemmas.Bool.{and_from}
 use Rattle.std.proofs.lemmas.List.Concat.{flat_map-cons}
@@ -8,16 +8,16 @@ use Rattle.px_entry.specs.declared.entries.Entry.{Entry}
 use Rattle.px_entry.specs.declared.tables.Gap.{Gap}
 use Rattle.px_entry.specs.declared.tables.Table.{Table}
 use Rattle.px_entry.specs.declared.derivations.Derivation.{Derivation}
-use Rattle.px_spelling.specs.Numbers.{u8_bytes, u32_bytes, IsU32, u64_bytes, IsU64}
+use Rattle.px_spelling.specs.Numbers.{u32_bytes, IsU32, u64_bytes, IsU64}
 use Rattle.px_spelling.specs.Lists.{list_bytes, IsList, any_number}
-use Rattle.px_spelling.specs.Polynomials.{polynomial_bytes, IsPolynomialInRange, PolynomialSpelling, in_full}
+use Rattle.px_spelling.specs.Polynomials.{polynomial_bytes, IsPolynomialInRange, in_full}
 use Rattle.px_spelling.specs.ByPlace.{by_place}
 use Rattle.px_spelling.specs.Mentions.{entry_mentions, gap_mentions, table_mentions}
 use Rattle.px_spelling.specs.Entries.{entry_bytes, IsEntry}
 use Rattle.px_spelling.specs.Tables.{gap_bytes, IsGap, table_bytes, IsTable, most_rows}
 use Rattle.px_spelling.specs.Derivations.{derivation_bytes, IsDerivation}
 use Rattle.px_wire.specs.TableRanges.{entry_within, gap_within, table_within}
-use Rattle.px_wire.specs.Messages.{MessageTree, reply, large, any_types, fields_bytes, IsSaid, IsMessage}
+use Rattle.px_wire.specs.Messages.{MessageTree, reply, large, any_types, fields_bytes, IsSaid}
 use Rattle.px_wire.specs.Mentions.{terms_of}
 use Rattle.px_wire.specs.Versions.{bytes_in, SpellsIn}
 use Rattle.px_wire.proofs.MessageRanges.{from_terms}

@@ -8,7 +8,7 @@ ghost use Rattle.px_wire.specs.Messages.{any_types};
 ghost use Rattle.px_wire.specs.JobRanges.{rises};
 ghost use Rattle.px_wire.specs.TableRanges.{entry_within, gap_within};
 ghost use Rattle.px_wire.specs.Readers.{kinds_at};
-ghost use Rattle.px_parts.specs.Places.{Head, ListedHead, Large, IsOpened, opening_bytes};
+ghost use Rattle.px_parts.specs.Places.{IsOpened, opening_bytes};
 ghost use Rattle.px_parts.specs.Reading.{reply_opened, large_opened, opened, opening_at, sender_at, count_at, own_entry_at, own_drop_at};
 ghost use Rattle.px_parts.specs.Stream.{IsSender, sender_bytes};
 ghost use Rattle.px_parts.specs.Kept.{spelling_by, place_of};

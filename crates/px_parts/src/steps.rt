@@ -1,4 +1,4 @@
-ghost use Rattle.std.specs.Prelude.{◌≡◌, IfOk, IsErrOf};
+ghost use Rattle.std.specs.Prelude.{IfOk, IsErrOf};
 ghost use Rattle.px_spelling.specs.declared.fault.WireFault.TheVariants as fault;
 ghost use Rattle.px_parts.specs.declared.next.Next.TheVariants as at;
 ghost use Rattle.px_parts.specs.Stream.{Arrives, IsStuck};
