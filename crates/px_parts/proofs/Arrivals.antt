@@ -18,12 +18,11 @@ use Rattle.px_spelling.specs.Tables.{gap_bytes, IsGap}
 use Rattle.px_spelling.specs.Derivations.{derivation_bytes, IsDerivation, derivation_at}
 use Rattle.px_wire.specs.TableRanges.{entry_within, gap_within}
 use Rattle.px_wire.specs.Messages.{any_types}
-use Rattle.px_parts.specs.declared.part.Part.{Part}
 use Rattle.px_parts.specs.declared.part.Part.TheVariants as P
 use Rattle.px_parts.specs.declared.next.Next.{Next}
 use Rattle.px_parts.specs.declared.next.Next.TheVariants as N
 use Rattle.px_parts.specs.Places.{full, listed, spelling, AreInOrder, behind, AllNamed, Start, Head, ListedHead, Large, EntryCount, Entries, DropCount, Drops, DerivationCount, Derivations, Over, IsOpened, opening_bytes}
-use Rattle.px_parts.specs.Reading.{opening_at, sender_at, listed_head_at, count_at, own_entry_at, own_drop_at}
+use Rattle.px_parts.specs.Reading.{opening_at, sender_at, count_at, own_entry_at, own_drop_at}
 use Rattle.px_parts.specs.Stream.{IsSender, sender_bytes, opening, head, listed_head, too_large, entry_count, entry, all_entries, drop_count, a_drop, all_drops, derivation_count, derivation, all_derivations, Arrives, IsStuck}
 use Rattle.px_parts.specs.Kept.{naming, spelling_by, place_of}
 use Rattle.px_parts.proofs.Stuck.{stuck_start, stuck_head, stuck_listed_head, stuck_twice, stuck_large, stuck_entry_count, stuck_entry, stuck_entry_order, stuck_drop_count, stuck_drop, stuck_drop_order, stuck_unnamed, stuck_derivation_count, stuck_derivation}

@@ -1,5 +1,5 @@
 -- The bytes of a message hold its parts, in each version.
-use Rattle.std.proofs.Common.{◌≡◌, ◌⊎◌, inl, inr, ⊎_elim, ℕ, ◌-◌, ◌≤◌, List, [], ◌∷◌, ◌++◌, length, map, true, Option, Some, None, refl, sym, ap, subst, ◌∙◌, append_assoc, append-nil, arith}
+use Rattle.std.proofs.Common.{◌≡◌, inl, inr, ⊎_elim, ℕ, ◌-◌, ◌<◌, ◌≤◌, ◌^◌, List, [], ◌∷◌, ◌++◌, length, map, true, Option, Some, None, refl, sym, ap, subst, ◌∙◌, append_assoc, append-nil, arith}
 use Rattle.std.specs.List.{flat_map, list_all, AllByRecursion}
 use Rattle.std.proofs.lemmas.Bool.{and_parts}
 use Rattle.std.proofs.lemmas.List.Concat.{flat_map-cons}
@@ -8,10 +8,10 @@ use Rattle.px_entry.specs.declared.entries.Entry.{Entry}
 use Rattle.px_entry.specs.declared.tables.Gap.{Gap}
 use Rattle.px_entry.specs.declared.tables.Table.{Table}
 use Rattle.px_entry.specs.declared.derivations.Derivation.{Derivation}
-use Rattle.px_spelling.specs.Numbers.{u8_bytes, u32_bytes, IsU32, u64_bytes}
+use Rattle.px_spelling.specs.Numbers.{u32_bytes, IsU32, u64_bytes}
 use Rattle.px_spelling.specs.Lists.{list_bytes, IsList, any_number}
-use Rattle.px_spelling.specs.Polynomials.{polynomial_bytes, PolynomialSpelling, in_full}
-use Rattle.px_spelling.specs.ByPlace.{distinct, by_place}
+use Rattle.px_spelling.specs.Polynomials.{polynomial_bytes, in_full}
+use Rattle.px_spelling.specs.ByPlace.{by_place}
 use Rattle.px_spelling.specs.Mentions.{entry_mentions, gap_mentions, table_mentions}
 use Rattle.px_spelling.specs.Entries.{entry_bytes, IsEntry}
 use Rattle.px_spelling.specs.Tables.{gap_bytes, IsGap, table_bytes, IsTable, most_rows}
@@ -24,7 +24,7 @@ use Rattle.px_wire.specs.Versions.{bytes_in, HasVersion}
 use Rattle.px_wire.proofs.MessageRanges.{by_terms, terms_fit}
 use Rattle.px_parts.specs.declared.part.Part.{Part}
 use Rattle.px_parts.specs.declared.part.Part.TheVariants as P
-use Rattle.px_parts.specs.Places.{Naming, full, listed, spelling, AllNamed, Start, Head, ListedHead, Large, EntryCount, Entries, DropCount, Drops, DerivationCount, Derivations, Over}
+use Rattle.px_parts.specs.Places.{spelling, AllNamed, Start, Head, ListedHead, Large, EntryCount, Entries, DropCount, Drops, DerivationCount, Derivations, Over}
 use Rattle.px_parts.specs.Parts.{table_parts, parts_of, IsReplying}
 use Rattle.px_parts.specs.Stream.{sender_bytes, opening, head, listed_head, too_large, entry_count, entry, all_entries, drop_count, a_drop, all_drops, derivation_count, derivation, all_derivations, Streams, stays, goes}
 use Rattle.px_parts.specs.Kept.{spelling_by}
@@ -51,11 +51,12 @@ module _ (o : Option (List Polynomial)) (bytes : List ℕ) (parts : List Part) w
       let front_first : IsFront o ms = front_before o ms own front_own in
       let k = after o ms in
       let same : spelling k ≡ p = spelled_after o ms in
-      goes (Some (P.Drop g))
-      (gap_bytes p g,
-      a_drop (length gs) k (after o (ms ++ own)) g (gap_bytes p g) (subst (λ q. IsGap q g) (sym same) all.0) both.0 (in_order o ms own front_first front_own) (sym (behind_after o ms own front_first))
-      (ap (λ q. gap_bytes q g) (sym same)),
-      ap (λ l. l ++ bytes) (flat_map-cons (gap_bytes p) g gs) ∙ append_assoc (gap_bytes p g) (flat_map (gap_bytes p) gs) bytes)
+      goes (Some (P.Drop g)) (
+        gap_bytes p g,
+        a_drop (length gs) k (after o (ms ++ own)) g (gap_bytes p g) (subst (λ q. IsGap q g) (sym same) all.0) both.0 (in_order o ms own front_first front_own) (sym (behind_after o ms own front_first))
+            (ap (λ q. gap_bytes q g) (sym same)),
+        ap (λ l. l ++ bytes) (flat_map-cons (gap_bytes p) g gs) ∙ append_assoc (gap_bytes p g) (flat_map (gap_bytes p) gs) bytes,
+      )
       (drops_stream (ms ++ own) gs all.1 both.1 front_all (subst (λ l. AllNamed (after o l)) joined named) next) refl
 
   entries_stream : (r : ℕ) (ms : List Polynomial) (es : List Entry) → AllByRecursion (IsEntry (spelling_by o)) es → list_all (entry_within any_types) es ≡ true → IsFront o (ms ++ flat_map entry_mentions es) →
@@ -73,11 +74,12 @@ module _ (o : Option (List Polynomial)) (bytes : List ℕ) (parts : List Part) w
       let front_first : IsFront o ms = front_before o ms own front_own in
       let k = after o ms in
       let same : spelling k ≡ p = spelled_after o ms in
-      goes (Some (P.Entry e))
-      (entry_bytes p e,
-      entry (length es) r k (after o (ms ++ own)) e (entry_bytes p e) (subst (λ q. IsEntry q e) (sym same) all.0) both.0 (in_order o ms own front_first front_own) (sym (behind_after o ms own front_first))
-      (ap (λ q. entry_bytes q e) (sym same)),
-      ap (λ l. l ++ bytes) (flat_map-cons (entry_bytes p) e es) ∙ append_assoc (entry_bytes p e) (flat_map (entry_bytes p) es) bytes)
+      goes (Some (P.Entry e)) (
+        entry_bytes p e,
+        entry (length es) r k (after o (ms ++ own)) e (entry_bytes p e) (subst (λ q. IsEntry q e) (sym same) all.0) both.0 (in_order o ms own front_first front_own) (sym (behind_after o ms own front_first))
+            (ap (λ q. entry_bytes q e) (sym same)),
+        ap (λ l. l ++ bytes) (flat_map-cons (entry_bytes p) e es) ∙ append_assoc (entry_bytes p e) (flat_map (entry_bytes p) es) bytes,
+      )
       (entries_stream r (ms ++ own) es all.1 both.1 front_all (subst (λ l. Streams (DropCount r (after o l)) bytes parts Over []) joined next)) refl
 
 -- the bytes of a table and of what stands behind it, list by list
@@ -109,8 +111,8 @@ table_stream o table ds (are_entries, are_drops) within are_derivations front na
     subst (λ l. Streams (EntryCount (after o [])) l (table_parts table ds) Over [])
     (sym (by_lists (u32_bytes (length es)) (flat_map (entry_bytes p) es) (u32_bytes (length gs)) (flat_map (gap_bytes p) gs) tail)) counted
 
-few_terms : (n : ℕ) → IsU32 n → n ≤ any_number
-few_terms n few = omega arith
+pub few : (n : ℕ) → n < 2 ^ 32 → n ≤ any_number
+few n small = omega arith
 
 full_streams : (m : MessageTree) → IsReplying m → IsMessage m → Streams Start (bytes_in 1 m) (parts_of 1 m) Over []
 full_streams (request j) replying fits = absurd replying
@@ -125,11 +127,11 @@ full_streams (large ticket) replying is_ticket =
     (goes (Some (P.Large 1 ticket)) (u64_bytes ticket, too_large 1 ticket (u64_bytes ticket) is_ticket refl, sym (append-nil (u64_bytes ticket))) stays refl) refl
 
 shared_streams : (m : MessageTree) → IsReplying m → IsMessage m → IsU32 (length (terms_of m)) → Streams Start (bytes_in 2 m) (parts_of 2 m) Over []
-shared_streams (request j) replying fits few = absurd replying
-shared_streams (reply ticket kinds table ds) replying fits few =
+shared_streams (request j) replying fits small = absurd replying
+shared_streams (reply ticket kinds table ds) replying fits small =
     let m = reply ticket kinds table ds in
     let terms = terms_of m in
-    let said : IsSaid (by_place terms) m = by_terms m fits few in
+    let said : IsSaid (by_place terms) m = by_terms m fits small in
     let sender = sender_bytes ticket kinds in
     let spelled = list_bytes polynomial_bytes terms in
     let rest = table_bytes (by_place terms) table ++ list_bytes derivation_bytes ds in
@@ -137,9 +139,9 @@ shared_streams (reply ticket kinds table ds) replying fits few =
     ap (λ l. spelled ++ l) (append_assoc sender (table_bytes (by_place terms) table) (list_bytes derivation_bytes ds)) ∙ sym (append_assoc spelled sender rest) in
     goes None (1 ∷ 2 ∷ [], opening ListedHead (1 ∷ 2 ∷ []) tt refl, refl)
     (goes (Some (P.Head 2 ticket kinds))
-    (spelled ++ sender, listed_head terms ticket kinds (spelled ++ sender) ((few, few_terms (length terms) few, terms_fit m fits), all_differ (table_mentions table)) (said.0.0, said.0.1, said.1) refl, behind)
+    (spelled ++ sender, listed_head terms ticket kinds (spelled ++ sender) ((small, few (length terms) small, terms_fit m fits), all_differ (table_mentions table)) (said.0.0, said.0.1, said.1) refl, behind)
     (table_stream (Some terms) table ds said.0.2 said.2 said.0.3 (all_first terms (table_mentions table) refl) refl) refl) refl
-shared_streams (large ticket) replying is_ticket few =
+shared_streams (large ticket) replying is_ticket small =
     goes None (2 ∷ 2 ∷ [], opening (Large 2) (2 ∷ 2 ∷ []) (inr refl) refl, refl)
     (goes (Some (P.Large 2 ticket)) (u64_bytes ticket, too_large 2 ticket (u64_bytes ticket) is_ticket refl, sym (append-nil (u64_bytes ticket))) stays refl) refl
 

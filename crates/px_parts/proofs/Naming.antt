@@ -7,13 +7,12 @@ use Rattle.std.proofs.lemmas.Bool.Decides.{nat_tests}
 use Rattle.std.proofs.lemmas.List.{take_more, take_all, take_min, take-append-drop, length-take-le}
 use Rattle.std.proofs.Math.Seq.{take-append_seam}
 use Rattle.px_terms.specs.Polynomials.{Polynomial}
-use Rattle.px_spelling.specs.Polynomials.{PolynomialSpelling, in_full}
-use Rattle.px_spelling.specs.ByPlace.{is_same, distinct, Differ, place_in, by_place}
+use Rattle.px_spelling.specs.ByPlace.{is_same, distinct, Differ, place_in}
 use Rattle.px_spelling.proofs.PlaceLemmas.{all_differ, found}
 use Rattle.px_spelling.proofs.IndexLemmas.{own_place}
 use Rattle.px_spelling.proofs.Growing.{grown, distinct_more, same_there, is_below, in_front}
 use Rattle.px_parts.specs.Places.{Naming, full, listed, spelling, named_with, AreInOrder, behind, AllNamed}
-use Rattle.px_parts.specs.Kept.{naming, spelling_by}
+use Rattle.px_parts.specs.Kept.{spelling_by}
 
 -- ---- each once
 

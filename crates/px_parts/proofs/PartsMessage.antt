@@ -1,5 +1,5 @@
 -- Bytes that hold parts to the end of a message are that message, in the version that they say.
-use Rattle.std.proofs.Common.{◌≡◌, ◌⊎◌, inl, inr, ⊎_elim, ℕ, suc, ◌-◌, ◌<◌, ◌≤◌, ◌^◌, List, [], ◌∷◌, ◌++◌, length, map, true, Option, Some, None, refl, sym, ap, subst, ◌∙◌, append_assoc, append-nil, arith}
+use Rattle.std.proofs.Common.{◌≡◌, inl, inr, ⊎_elim, ℕ, suc, ◌-◌, ◌≤◌, List, [], ◌∷◌, ◌++◌, length, map, true, Option, Some, None, refl, sym, ap, subst, ◌∙◌, append_assoc, append-nil, arith}
 use Rattle.std.specs.List.{flat_map, list_all, AllByRecursion}
 use Rattle.std.proofs.lemmas.Bool.{and_from}
 use Rattle.std.proofs.lemmas.List.Concat.{flat_map-cons}
@@ -8,16 +8,16 @@ use Rattle.px_entry.specs.declared.entries.Entry.{Entry}
 use Rattle.px_entry.specs.declared.tables.Gap.{Gap}
 use Rattle.px_entry.specs.declared.tables.Table.{Table}
 use Rattle.px_entry.specs.declared.derivations.Derivation.{Derivation}
-use Rattle.px_spelling.specs.Numbers.{u8_bytes, u32_bytes, IsU32, u64_bytes, IsU64}
+use Rattle.px_spelling.specs.Numbers.{u32_bytes, IsU32, u64_bytes, IsU64}
 use Rattle.px_spelling.specs.Lists.{list_bytes, IsList, any_number}
-use Rattle.px_spelling.specs.Polynomials.{polynomial_bytes, IsPolynomialInRange, PolynomialSpelling, in_full}
+use Rattle.px_spelling.specs.Polynomials.{polynomial_bytes, IsPolynomialInRange, in_full}
 use Rattle.px_spelling.specs.ByPlace.{by_place}
 use Rattle.px_spelling.specs.Mentions.{entry_mentions, gap_mentions, table_mentions}
 use Rattle.px_spelling.specs.Entries.{entry_bytes, IsEntry}
 use Rattle.px_spelling.specs.Tables.{gap_bytes, IsGap, table_bytes, IsTable, most_rows}
 use Rattle.px_spelling.specs.Derivations.{derivation_bytes, IsDerivation}
 use Rattle.px_wire.specs.TableRanges.{entry_within, gap_within, table_within}
-use Rattle.px_wire.specs.Messages.{MessageTree, reply, large, any_types, fields_bytes, IsSaid, IsMessage}
+use Rattle.px_wire.specs.Messages.{MessageTree, reply, large, any_types, fields_bytes, IsSaid}
 use Rattle.px_wire.specs.Mentions.{terms_of}
 use Rattle.px_wire.specs.Versions.{bytes_in, SpellsIn}
 use Rattle.px_wire.proofs.MessageRanges.{from_terms}
@@ -29,7 +29,7 @@ use Rattle.px_parts.specs.Stream.{IsSender, sender_bytes, AreTerms, opening, hea
 use Rattle.px_parts.specs.Kept.{spelling_by}
 use Rattle.px_parts.proofs.Naming.{after as naming_after, IsFront, spelled_after, behind_after, front_on, none_first, all_named}
 use Rattle.px_parts.proofs.Stuck.{stuck_over}
-use Rattle.px_parts.proofs.MessageParts.{by_lists}
+use Rattle.px_parts.proofs.MessageParts.{few, by_lists}
 
 -- ---- derivations
 
@@ -63,9 +63,6 @@ record EndIsDerivations (bytes : List ℕ) (parts : List Part) : Type 0 where
   fit : IsList IsDerivation any_number ds
   spelled : bytes ≡ list_bytes derivation_bytes ds
   named : parts ≡ map P.Derivation ds
-
-few : (n : ℕ) → n < 2 ^ 32 → n ≤ any_number
-few n small = omega arith
 
 end_of : (bytes : List ℕ) (parts : List Part) → Streams DerivationCount bytes parts Over [] → EndIsDerivations bytes parts
 end_of bytes parts (goes {after = after} {more = more} _ (front, derivation_count n _ fits same, is) next are) =
@@ -307,10 +304,28 @@ said_large number ticket bytes after parts more known fits is are (no_more, no_a
     let all : bytes ≡ u64_bytes ticket = is ∙ ap (λ l. u64_bytes ticket ++ l) no_after ∙ append-nil (u64_bytes ticket) in
     let one : parts ≡ P.Large number ticket ∷ [] = are ∙ ap (λ l. P.Large number ticket ∷ l) no_more in
     ⊎_elim
-    (λ (first : number ≡ 1). (number, large ticket, tt, (
-      subst (λ v. 2 ∷ v ∷ bytes ≡ bytes_in v (large ticket)) (sym first) (ap (λ l. 2 ∷ 1 ∷ l) all), fits, inl first), sym one))
-    (λ (second : number ≡ 2). (number, large ticket, tt, (
-      subst (λ v. 2 ∷ v ∷ bytes ≡ bytes_in v (large ticket)) (sym second) (ap (λ l. 2 ∷ 2 ∷ l) all), fits, inr (second, few_none)), sym one))
+    (λ (first : number ≡ 1). (
+      number,
+      large ticket,
+      tt,
+      (
+        subst (λ v. 2 ∷ v ∷ bytes ≡ bytes_in v (large ticket)) (sym first) (ap (λ l. 2 ∷ 1 ∷ l) all),
+        fits,
+        inl first,
+      ),
+      sym one,
+    ))
+    (λ (second : number ≡ 2). (
+      number,
+      large ticket,
+      tt,
+      (
+        subst (λ v. 2 ∷ v ∷ bytes ≡ bytes_in v (large ticket)) (sym second) (ap (λ l. 2 ∷ 2 ∷ l) all),
+        fits,
+        inr (second, few_none),
+      ),
+      sym one,
+    ))
     known
 
 after_opening : (q : Place) (bytes : List ℕ) (parts : List Part) → IsOpened q → Streams q bytes parts Over [] → IsSpelled (opening_bytes q ++ bytes) parts

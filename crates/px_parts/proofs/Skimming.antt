@@ -3,16 +3,13 @@ use Rattle.std.proofs.Common.{◌≡◌, ◌≢◌, ℕ, ◌-◌, ◌≤◌, Lis
 use Rattle.std.specs.Prelude.{take, drop}
 use Rattle.std.proofs.lemmas.List.{take_all, length-drop, drop-append-le, length-append, append_cancel_right}
 use Rattle.px_spelling.specs.Numbers.{u8_bytes, u32_bytes, u64_bytes}
-use Rattle.px_spelling.specs.Lists.{list_bytes, IsList, any_number}
+use Rattle.px_spelling.specs.Lists.{list_bytes}
 use Rattle.px_spelling.specs.Polynomials.{polynomial_bytes}
-use Rattle.px_spelling.specs.Entries.{entry_bytes}
-use Rattle.px_spelling.specs.Tables.{gap_bytes}
-use Rattle.px_spelling.specs.Derivations.{derivation_bytes}
 use Rattle.px_parts.specs.declared.part.Part.{Part}
 use Rattle.px_parts.specs.declared.form.Form.TheVariants as F
 use Rattle.px_parts.specs.declared.form.Due.{Due}
 use Rattle.px_parts.specs.declared.skim.Skim.{Skim}
-use Rattle.px_parts.specs.Places.{spelling, Place, Start, Head, ListedHead, Large, EntryCount, Entries, DropCount, Drops, DerivationCount, Derivations, Over, IsOpened, opening_bytes}
+use Rattle.px_parts.specs.Places.{Place, Start, Head, ListedHead, Large, EntryCount, Entries, DropCount, Drops, DerivationCount, Derivations, Over, IsOpened, opening_bytes}
 use Rattle.px_parts.specs.Stream.{IsSender, sender_bytes, Comes, opening, head, listed_head, too_large, entry_count, entry, all_entries, drop_count, a_drop, all_drops, derivation_count, derivation, all_derivations, IsStuck}
 use Rattle.px_parts.specs.Forms.{due, next, Passes, stands, dues_at}
 use Rattle.px_parts.specs.Skims.{IsSkim, IsEnded}

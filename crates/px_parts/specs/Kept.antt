@@ -1,5 +1,5 @@
 -- What a reader waits for, in the code.
-use Rattle.std.specs.Prelude.{◌≡◌, ℕ, ◌<◌, List, [], ◌++◌, drop, Bool, true, false, Option, Some, None, Result, Ok, Err}
+use Rattle.std.specs.Prelude.{◌≡◌, ℕ, ◌<◌, List, drop, Bool, true, false, Option, Some, None, Result, Ok, Err}
 use Rattle.px_terms.specs.Polynomials.{Polynomial}
 use Rattle.px_spelling.specs.declared.fault.WireFault.{WireFault}
 use Rattle.px_spelling.specs.declared.fault.WireFault.TheVariants.{NotAMessage, NoMemory}

@@ -111,7 +111,8 @@ pub(crate) fn due_after(form: Form, front: &[u8]) -> Due
     ensures { result ≡ follow form front.now }
 {
     match form {
-        Form::Byte | Form::Word | Form::Ticket | Form::Site | Form::Failure | Form::Call => nothing(),
+        Form::Byte | Form::Word | Form::Ticket | Form::Site | Form::Failure | Form::Call =>
+            nothing(),
         Form::Kinds => many(Form::Byte, front),
         Form::Words => many(Form::Word, front),
         Form::Marks => many(Form::Mark, front),

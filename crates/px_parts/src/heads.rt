@@ -8,7 +8,7 @@ ghost use Rattle.px_wire.specs.Messages.{any_types};
 ghost use Rattle.px_wire.specs.JobRanges.{rises};
 ghost use Rattle.px_wire.specs.TableRanges.{entry_within, gap_within};
 ghost use Rattle.px_wire.specs.Readers.{kinds_at};
-ghost use Rattle.px_parts.specs.Places.{Head, ListedHead, Large, IsOpened, opening_bytes};
+ghost use Rattle.px_parts.specs.Places.{IsOpened, opening_bytes};
 ghost use Rattle.px_parts.specs.Reading.{reply_opened, large_opened, opened, opening_at, sender_at, count_at, own_entry_at, own_drop_at};
 ghost use Rattle.px_parts.specs.Stream.{IsSender, sender_bytes};
 ghost use Rattle.px_parts.specs.Kept.{spelling_by, place_of};
@@ -67,10 +67,7 @@ fn large_by(version: u8, bytes: &[u8]) -> Result<(Next, &[u8]), WireFault>
 
 /// A ticket and kinds, and the bytes after them.
 #[tactic(auto, unfolding(crate::specs::Reading::sender_at))]
-pub(crate) fn read_sender(
-    alloc: Global,
-    bytes: &[u8],
-) -> Result<(u64, Items<u8>, &[u8]), WireFault>
+pub(crate) fn read_sender(alloc: Global, bytes: &[u8]) -> Result<(u64, Items<u8>, &[u8]), WireFault>
     ensures reads { Gives (λ x. ((x.0, x.1), x.2.now)) result (sender_at bytes.now) }
     ensures spelled { IfOk result (λ x. (bytes.now ≡ sender_bytes x.0 x.1 ++ x.2.now) × IsSender x.0 x.1) }
 {

@@ -353,11 +353,7 @@ fn pass_first<'a>(
 }
 
 // Puts what is due of what comes next behind what is due.
-fn put_dues(
-    dues: &mut VecDeque<Due>,
-    next: Next,
-    terms: &Option<TermList>,
-) -> Result<(), NoMemory>
+fn put_dues(dues: &mut VecDeque<Due>, next: Next, terms: &Option<TermList>) -> Result<(), NoMemory>
     ensures { OnOk result (dues.new.items ≡ dues.old.items ++ dues_at (place_of next terms.now)) }
 {
     match next {

@@ -1,4 +1,4 @@
-ghost use Rattle.std.specs.Prelude.{◌≡◌, IfOk, IsErrOf};
+ghost use Rattle.std.specs.Prelude.{IfOk, IsErrOf};
 ghost use Rattle.px_spelling.specs.declared.fault.WireFault.TheVariants as fault;
 ghost use Rattle.px_parts.specs.declared.next.Next.TheVariants as at;
 ghost use Rattle.px_parts.specs.Stream.{Arrives, IsStuck};
@@ -85,7 +85,7 @@ fn head<'a>(
 }
 
 // The list of terms is read with the head behind it.
-#[tactic(auto, using(crate::proofs::Arrivals::listed_head_arrives, crate::proofs::Arrivals::listed_head_stuck))]
+#[tactic(auto, using(crate::proofs::Arrivals::listed_head_arrives))]
 fn listed_head<'a>(
     alloc: Global,
     terms: &Option<TermList>,
@@ -200,7 +200,11 @@ fn next_drop<'a>(
     let (gap, rest) = read_drop(alloc, terms, bytes)?;
     let named = named_after(alloc, terms, named, &gap)?;
     let left = left - 1;
-    Ok((Some(Given::Row(Part::Drop(gap))), Next::Drops { left, named }, rest))
+    Ok((
+        Some(Given::Row(Part::Drop(gap))),
+        Next::Drops { left, named },
+        rest,
+    ))
 }
 
 #[tactic(auto, using(crate::proofs::Arrivals::derivation_count_arrives, crate::proofs::Arrivals::derivation_count_stuck))]
