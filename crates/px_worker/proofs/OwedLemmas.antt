@@ -19,6 +19,10 @@ pub one_or_two : (version : ℕ) (bytes : List ℕ) (m : MessageTree) → Spells
 one_or_two version bytes m (is, within, inl one) = inl one
 one_or_two version bytes m (is, within, inr (two, few)) = inr two
 
+-- the same bytes spell the same
+pub spelled_so : (v w : ℕ) (bytes : List ℕ) (m n : MessageTree) → SpellsIn v bytes m → m ≡ n → w ≡ v → SpellsIn w bytes n
+spelled_so v w bytes m n p is same = subst (λ x. SpellsIn x bytes n) (sym same) (subst (λ t. SpellsIn v bytes t) is p)
+
 -- a job of a message has few parameters
 pub few : (version : ℕ) (message : List ℕ) (j : JobTree) → SpellsIn version message (request j) → length j.body.parameters ≤ most_variables
 few version message j (is, ((proc, (slots, (count, small, all), result, commands, size), types, callees, limits, kinds, ticket), within), has) = omega arith
