@@ -8,7 +8,7 @@ use Rattle.px_frames.specs.Frames.{most_bytes}
 use Rattle.px_explore.specs.declared.results.Analysis.{Analysis}
 use Rattle.px_explore.specs.Own.{IsAnalysis}
 use Rattle.px_wire.specs.Messages.{MessageTree, request, reply, IsMessage}
-use Rattle.px_wire.specs.Versions.{HasVersion, SpellsIn}
+use Rattle.px_wire.specs.Versions.{Sent, message_tree, HasVersion, SpellsIn}
 use Rattle.px_wire.specs.Laws.{OneSpelling}
 use Rattle.px_worker.specs.Answers.{AsksIn, in_frame, reply_to, IsOwed}
 
@@ -45,6 +45,10 @@ too_long a b long = ap (λ t. if t then b else a) (lt-ltb most_bytes (length a) 
 -- the reply to a job that is so analysed
 abbrev pub reply_of : JobTree → Analysis → MessageTree
 reply_of j a = reply j.ticket j.kinds a.table a.derivations
+
+-- its bytes spell it
+abbrev pub IsSentInRange : Sent → Type 0
+IsSentInRange m = IsMessage (message_tree m) × HasVersion m.version (message_tree m)
 
 -- of such a reply
 pub owed_is : (known version : ℕ) (numbers message answer : List ℕ) (j : JobTree) (a : Analysis) → length message ≤ most_bytes → version ≤ known → SpellsIn version message (request j) →

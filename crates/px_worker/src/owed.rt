@@ -87,7 +87,8 @@ pub(crate) fn owed(
     if !is_in_range(&reply) {
         return Err(NotOwed::OutOfRange);
     }
-    Ok(fitted(alloc, reply, ticket)?)
+    let answer = fitted(alloc, reply, ticket)?;
+    Ok(answer)
 }
 
 // What a message asks for, in a version up to this one.
