@@ -8,7 +8,7 @@ use Rattle.px_frames.specs.Frames.{most_bytes}
 use Rattle.px_explore.specs.declared.results.Analysis.{Analysis}
 use Rattle.px_explore.specs.Own.{IsAnalysis}
 use Rattle.px_wire.specs.Messages.{MessageTree, request, reply, IsMessage}
-use Rattle.px_wire.specs.Versions.{HasVersion, SpellsIn}
+use Rattle.px_wire.specs.Versions.{Sent, message_tree, HasVersion, SpellsIn}
 use Rattle.px_wire.specs.Laws.{OneSpelling}
 use Rattle.px_worker.specs.Answers.{AsksIn, in_frame, reply_to, IsOwed}
 
@@ -18,6 +18,10 @@ use Rattle.px_worker.specs.Answers.{AsksIn, in_frame, reply_to, IsOwed}
 pub one_or_two : (version : ℕ) (bytes : List ℕ) (m : MessageTree) → SpellsIn version bytes m → (version ≡ 1) ⊎ (version ≡ 2)
 one_or_two version bytes m (is, within, inl one) = inl one
 one_or_two version bytes m (is, within, inr (two, few)) = inr two
+
+-- the same bytes spell the same
+pub spelled_so : (v w : ℕ) (bytes : List ℕ) (m n : MessageTree) → SpellsIn v bytes m → m ≡ n → w ≡ v → SpellsIn w bytes n
+spelled_so v w bytes m n p is same = subst (λ x. SpellsIn x bytes n) (sym same) (subst (λ t. SpellsIn v bytes t) is p)
 
 -- a job of a message has few parameters
 pub few : (version : ℕ) (message : List ℕ) (j : JobTree) → SpellsIn version message (request j) → length j.body.parameters ≤ most_variables
@@ -41,6 +45,10 @@ too_long a b long = ap (λ t. if t then b else a) (lt-ltb most_bytes (length a) 
 -- the reply to a job that is so analysed
 abbrev pub reply_of : JobTree → Analysis → MessageTree
 reply_of j a = reply j.ticket j.kinds a.table a.derivations
+
+-- its bytes spell it
+abbrev pub IsSentInRange : Sent → Type 0
+IsSentInRange m = IsMessage (message_tree m) × HasVersion m.version (message_tree m)
 
 -- of such a reply
 pub owed_is : (known version : ℕ) (numbers message answer : List ℕ) (j : JobTree) (a : Analysis) → length message ≤ most_bytes → version ≤ known → SpellsIn version message (request j) →

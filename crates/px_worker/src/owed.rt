@@ -1,4 +1,4 @@
-ghost use Rattle.std.specs.Prelude.{◌≡◌, ◌≢◌, ◌≤◌, ◌↔◌, ◌⊎◌, true, [], All, length, map, IfOk, IfNone, IfSome, IsErrOf};
+ghost use Rattle.std.specs.Prelude.{◌≡◌, ◌≢◌, ◌≤◌, ◌↔◌, ◌⊎◌, ℕ, true, [], All, length, map, IfOk, IfNone, IfSome, IsErrOf};
 ghost use Rattle.px_base.specs.Bounds.{most_variables};
 ghost use Rattle.px_callgraph.specs.JobTree.{JobTree, job_tree};
 ghost use Rattle.px_frames.specs.Frames.{most_bytes};
@@ -87,7 +87,8 @@ pub(crate) fn owed(
     if !is_in_range(&reply) {
         return Err(NotOwed::OutOfRange);
     }
-    Ok(fitted(alloc, reply, ticket)?)
+    let answer = fitted(alloc, reply, ticket)?;
+    Ok(answer)
 }
 
 // What a message asks for, in a version up to this one.
