@@ -3,7 +3,6 @@ use Rattle.std.proofs.Common.{◌≡◌, ℕ, ◌+◌, ◌-◌, ◌<◌, ◌≤�
 use Rattle.std.specs.Prelude.{take}
 use Rattle.std.proofs.lemmas.List.{length-append, length-take, take_all}
 use Rattle.px_spelling.specs.declared.fault.WireFault.TheVariants.{NotAMessage}
-use Rattle.px_spelling.specs.Numbers.{u32_bytes}
 use Rattle.px_wire.specs.Messages.{MessageTree}
 use Rattle.px_wire.specs.Versions.{SpellsIn}
 use Rattle.px_parts.specs.declared.part.Part.{Part}
@@ -79,9 +78,6 @@ front bytes more left parts w number m g replying spells =
     let e = streams_begin Start g.place bytes g.rest more parts (parts_of number m) g.streams (said_streams number m (bytes ++ more) replying spells) in (e.0, e.1)
 
 -- ---- each part has bytes
-
-word_first : (n : ℕ) (behind : List ℕ) → 0 < length (u32_bytes n ++ behind)
-word_first n behind = omega arith
 
 has_bytes : (p q : Place) (x : Part) (bytes : List ℕ) → Comes p (Some x) q bytes → 0 < length bytes
 has_bytes _ _ _ bytes (head ticket kinds _ fits is) = subst (λ l. 0 < length l) (sym is) (omega arith)

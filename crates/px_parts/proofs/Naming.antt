@@ -211,10 +211,3 @@ other_mention ts ms named i n d r differ few lt so_far at other order =
     let all : take named ts ++ ms ≡ (xs ++ p ∷ []) ++ drop (i + 1) ms =
     ap (λ l. take named ts ++ l) (sym (take-append-drop (i + 1) ms)) ∙ sym (append_assoc (take named ts) (take (i + 1) ms) (drop (i + 1) ms)) ∙ ap (λ l. l ++ drop (i + 1) ms) (one_mention (take named ts) ms i d lt) in
     names_other ts xs (drop (i + 1) ms) p n r differ few so_far at other (subst (λ l. AreFirst ts l) all order)
-
-pub all_mentioned : (ts ms : List Polynomial) (named i n : ℕ) → length ms ≤ i → n ≤ length ts → distinct (take named ts ++ take i ms) ≡ take n ts →
-    (n ≡ length (named_with ts named ms)) × AreInOrder (listed ts named) ms
-all_mentioned ts ms named i n done few so_far =
-    let all : named_with ts named ms ≡ take n ts = ap (λ l. distinct (take named ts ++ l)) (sym (take_all i ms done)) ∙ so_far in
-    let many : n ≡ length (named_with ts named ms) = sym (ap length all ∙ length-take-le n ts few) in
-    (many, ap (λ k. take k ts) (sym many) ∙ sym all)
