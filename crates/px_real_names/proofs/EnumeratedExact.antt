@@ -24,7 +24,7 @@ use Rattle.px_real_names.specs.Enumerated.{as_whole, Words, Adds, both, of_each,
 
 -- ---- names of several
 
-whole_of : {A : Type 0} (r : Read A) (a : A) → as_whole r ≡ Some a → r ≡ done a []
+pub whole_of : {A : Type 0} (r : Read A) (a : A) → as_whole r ≡ Some a → r ≡ done a []
 whole_of (Ok (b, [])) a h = let e : b ≡ a = cc in ap (λ z. done z []) e
 whole_of (Ok (b, t ∷ ts)) a h = absurd cc
 whole_of (Err s) a h = absurd cc

@@ -20,8 +20,8 @@ use std::alloc::Global;
 // How deep structs may stand within one another.
 const STRUCT_LIMIT: u32 = 200;
 
-// The tokens that are held.
-fn within<'a>(on: Texts<'a>, held: Span) -> Texts<'a>
+/// The tokens that are held.
+pub fn within<'a>(on: Texts<'a>, held: Span) -> Texts<'a>
     ensures { texts result ≡ held_in (texts on.entry) held }
 {
     let behind = skip(on.tokens, held.first);

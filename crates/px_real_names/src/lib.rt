@@ -2,8 +2,8 @@
 //! says of the declaration and of the names before it.
 #![tactic(auto)]
 
-mod enumerated;
-mod names;
+pub mod enumerated;
+pub mod names;
 pub mod slices;
 
 pub use names::Names;

@@ -78,8 +78,8 @@ fn is_typedef_word(specifier: &Specifier) -> bool
     }
 }
 
-// Whether `typedef` is among them.
-fn is_typedef(specifiers: &[Specifier]) -> bool
+/// Whether `typedef` is among them.
+pub fn is_typedef(specifiers: &[Specifier]) -> bool
     ensures { (all : List Lexeme) → result ≡ Scopes.is_typedef (map (specifier_tree all) specifiers.now) }
 {
     for specifier in specifiers {

@@ -3,3 +3,4 @@ pub mod DeclaratorLemmas
 pub mod SuffixedLemmas
 pub mod StaticLemmas
 pub mod MemberLemmas
+pub mod NothingLemmas

@@ -1,5 +1,5 @@
 -- The type of what a declarator declares, from the type that its specifiers say (C11 6.7.6).
-use Rattle.std.specs.Prelude.{ℕ, List, [], ◌∷◌, option_map, Option, Some, None, ◌||◌}
+use Rattle.std.specs.Prelude.{ℕ, Bool, true, false, List, [], ◌∷◌, option_map, Option, Some, None, ◌||◌}
 use Rattle.px_base.specs.declared.trace.Site.{Site}
 use Rattle.px_expressions.specs.Reading.{or_else}
 use Rattle.px_real_expressions.specs.Lexemes.{Lexeme}
@@ -37,6 +37,11 @@ pub record SignatureTree : Type 0 where
   pub site : Site
   pub gives : Shape
   pub parameters : List Lexeme
+
+-- nothing at all, as in the name of a type that is no pointer, array or function
+abbrev pub is_nothing : DeclaratorTree → Bool
+is_nothing no_name = true
+is_nothing _ = false
 
 -- a name, in parentheses or not
 abbrev pub bare_name : DeclaratorTree → Option (List ℕ × Site)

@@ -1,4 +1,5 @@
 pub mod Shapes
+pub mod Types
 pub mod Words
 pub mod Scopes
 pub mod Specifiers

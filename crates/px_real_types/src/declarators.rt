@@ -5,7 +5,7 @@ ghost use Rattle.px_real_declaring.specs.Trees.{group_tree, specifier_tree, decl
 ghost use Rattle.px_real_types.specs.Scopes.{texts};
 ghost use Rattle.px_real_types.specs.Specifiers.{groups_mark, unless_spoilt};
 ghost use Rattle.px_real_types.specs.declared.words.Mark.TheVariants.{Spoils};
-ghost use Rattle.px_real_types.specs.Declarators.{starred, declared, declared_shape, bare_name, function_in, signature_tree, own_signature, before_suffix, before_all};
+ghost use Rattle.px_real_types.specs.Declarators.{starred, declared, declared_shape, is_nothing, bare_name, function_in, signature_tree, own_signature, before_suffix, before_all};
 
 use crate::scope::Texts;
 use crate::shape::Shape;
@@ -51,6 +51,19 @@ fn before_all(suffixes: &[Suffix], shape: Shape) -> Shape
         before = before_suffix(suffixes[at], before);
     }
     before
+}
+
+/// Whether a declarator is nothing at all.
+#[cycle(is_nothing)]
+#[tactic(auto, using(px_real_declaring::proofs::DeclaratorEquations::trees))]
+pub fn is_nothing(declarator: &Declarator) -> bool
+    ensures { (all : List Lexeme) → result ≡ is_nothing (declarator_tree all declarator.now) }
+{
+    match declarator {
+        Declarator::NoName => true,
+        Declarator::Suffixed { core, suffixes } => suffixes.is_empty() && is_nothing(core),
+        Declarator::Name { .. } | Declarator::Inner { .. } | Declarator::Pointer { .. } => false,
+    }
 }
 
 // The type of the name that a declarator has.

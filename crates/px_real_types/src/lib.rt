@@ -4,6 +4,7 @@
 
 mod cells;
 mod declarators;
+mod known;
 mod linkage;
 mod scope;
 mod shape;
@@ -11,7 +12,8 @@ mod specifiers;
 mod words;
 
 pub use cells::{Cell, layout, parameter_of};
-pub use declarators::{Signature, declared_name, declared_shape, function_in};
+pub use declarators::{Signature, declared_name, declared_shape, function_in, is_nothing};
+pub use known::{Known, Member};
 pub use linkage::{add_weak_names, says_static};
 pub use scope::{Scope, Texts};
 pub use shape::{Base, ProfileType, Shape};

@@ -1,0 +1,7 @@
+pub mod Environments
+pub mod Places
+pub mod Phrases
+pub mod Values
+pub mod Declarations
+pub mod Statements
+pub mod WorkedBodies

@@ -1,0 +1,11 @@
+pub mod Scopes
+pub mod Lookups
+pub mod Knowing
+pub mod Functions
+pub mod Entering
+pub mod Behind
+pub mod Views
+pub mod Keys
+pub mod Steps
+pub mod Laws
+pub mod WorkedScopes
