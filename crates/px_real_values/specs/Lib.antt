@@ -1,0 +1,9 @@
+pub mod Spelled
+pub mod Environment
+pub mod Operands
+pub mod Operators
+pub mod Calls
+pub mod Values
+pub mod Views
+pub mod Turns
+pub mod WorkedValues
