@@ -16,7 +16,6 @@ returns-in_default g c =
     let env = g.E.Environment.sees c.args.environment.now in
     let d = c.in_default in
     given_as operand_seen c.outside_member.result _ _
-        (sym (ap (λ o. member_outside env c.args.site c.as_slice-field.result.now (operand_seen o)) d.other-is)
-        ∙ ap (λ n. member_outside env c.args.site n (operand_seen c.args.operand)) c.as_slice-field.ensures
+        (ap (λ n. member_outside env c.args.site n (operand_seen c.args.operand)) c.as_slice-field.ensures
         ∙ dotted_else env c.args.site c.args.name.now c.args.operand d.not-Member d.not-Struct d.not-Object d.not-Stopped)
         c.outside_member.ensures
