@@ -1,5 +1,5 @@
 -- What is made of operands, by what the code tests of them.
-use Rattle.std.proofs.Common.{◌≡◌, ◌≢◌, ◌∙◌, refl, sym, ap, subst, Bool, true, false, ◌&&◌, ◌++◌, ◌∷◌, [], List, ℕ, Option, Some, None, Result, Ok, Err, Vec, Global, is_some, IfOk, codes}
+use Rattle.std.proofs.Common.{◌≡◌, ◌≢◌, refl, sym, subst, Bool, true, false, ◌&&◌, ◌++◌, List, ℕ, Option, Some, None, Result, Vec, Global, is_some, IfOk, codes}
 use Rattle.std.specs.Prelude.{if◌then◌else◌}
 use Rattle.px_base.specs.declared.trace.Site.{Site}
 use Rattle.px_expressions.specs.Reading.{or_else}
@@ -19,7 +19,7 @@ use Rattle.px_real_values.specs.declared.operand.Operand.TheVariants as V
 use Rattle.px_real_types.specs.Types.{int}
 use Rattle.px_real_values.specs.Environment.{Environment}
 use Rattle.px_real_values.specs.Operands.{Operand, of_type, a_test, outside, parts, known_of, typed_as, needed, unwanted, unless_stopped}
-use Rattle.px_real_values.specs.Operators.{operator_text, outside_of, stopped_at, typed_both, computed, divided, compared, negated, taking, prefixed, member_in, known_member, dotted}
+use Rattle.px_real_values.specs.Operators.{operator_text, outside_of, stopped_at, computed, divided, compared, negated, taking, prefixed, member_in, known_member, dotted}
 use Rattle.px_real_values.specs.Views.{operand_seen}
 
 -- what is given is also that
@@ -41,10 +41,6 @@ pub ruleset tests = (some_if, some_of_two)
 pub one_value : {B : Type 0} (o : Option Expression) (f : Expression → B) (d : B) (u : Expression) → is_some o ≡ true → or_else o f d ≡ f (or_else o (λ e. e) u)
 one_value (Some x) f d u h = refl
 one_value None f d u h = absurd cc
-
-pub no_value : {B : Type 0} (o : Option Expression) (f : Expression → B) (d : B) → is_some o ≡ false → or_else o f d ≡ d
-no_value (Some x) f d h = absurd cc
-no_value None f d h = refl
 
 two_values : {B : Type 0} (o p : Option Expression) (f : Expression × Expression → B) (d : B) (u v : Expression) → (is_some o && is_some p) ≡ true →
     or_else (or_else o (λ x. or_else p (λ y. Some (x, y)) None) None) f d ≡ f (or_else o (λ e. e) u, or_else p (λ e. e) v)
@@ -82,9 +78,6 @@ module _ (env : Environment) (site : Site) (a b : Operand) where
 module _ (env : Environment) (site : Site) (a : Operand) where
   pub negated_int : is_some (typed_as env int a) ≡ true → of_type int site (T.negated (needed env site int a)) ≡ negated env site a
   negated_int h = sym (one_value (typed_as env int a) (λ x. of_type int site (T.negated x)) (outside_of env (codes "-") site (parts env a)) (unwanted env site a) h)
-
-  pub negated_other : is_some (typed_as env int a) ≡ false → outside_of env (codes "-") site (parts env a) ≡ negated env site a
-  negated_other h = sym (no_value (typed_as env int a) (λ x. of_type int site (T.negated x)) (outside_of env (codes "-") site (parts env a)) h)
 
 -- most operators before an operand take its value
 pub prefixed_else : (env : Environment) (p : Prefix) (site : Site) (a : Operand) → p ≢ P.Address → p ≢ P.Increment → p ≢ P.Decrement → p ≢ P.Extension → unless_stopped a (taking env p site) ≡ prefixed env p site a

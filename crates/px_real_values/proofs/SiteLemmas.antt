@@ -1,5 +1,5 @@
 -- What stands behind an expression leaves its first token, and makes it no constant and no size.
-use Rattle.std.proofs.Common.{◌≡◌, ◌∙◌, ◌⊎◌, inl, inr, refl, sym, ap, false, List, [], ◌∷◌, map, Option, None, Box, Vec, Global}
+use Rattle.std.proofs.Common.{◌≡◌, ◌∙◌, ◌⊎◌, inl, inr, refl, sym, ap, false, List, [], ◌∷◌, map, None, Box, Vec, Global}
 use Rattle.px_base.specs.declared.trace.Site.{Site}
 use Rattle.px_real_expressions.specs.declared.operators.Operator.{Operator}
 use Rattle.px_real_expressions.specs.Lexemes.{Lexeme}
@@ -10,7 +10,6 @@ use Rattle.px_real_reading.specs.declared.tree.Expression.{Expression}
 use Rattle.px_real_reading.specs.declared.tree.Expression.TheVariants as V
 use Rattle.px_real_reading.specs.Trees.{LinkTree, SuffixTree, an_index, a_call, a_member, a_pointer_member, a_step, expression_tree, suffix_tree, link_tree, chained, suffixed, all_suffixed}
 use Rattle.px_real_reading.proofs.TreeEquations.{tree-Postfix, tree-Binary}
-use Rattle.px_real_types.specs.declared.known.Known.{Known}
 use Rattle.px_real_values.specs.Environment.{Environment}
 use Rattle.px_real_values.specs.Values.{first_site, is_zero, measured}
 

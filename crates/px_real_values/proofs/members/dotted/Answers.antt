@@ -1,4 +1,4 @@
-use Rattle.std.proofs.Common.{◌≡◌, ◌∙◌, sym, ap}
+use Rattle.std.proofs.Common.{◌∙◌, sym, ap}
 use Rattle.px_real_values.specs.Operators.{dotted}
 use Rattle.px_real_values.specs.Views.{operand_seen}
 use Rattle.px_real_values.proofs.OperandLemmas.{given_as, member_outside, dotted_else}

@@ -2,7 +2,7 @@ use Rattle.std.proofs.Common.{◌≡◌, ◌∙◌, true, sym, subst}
 use Rattle.std.specs.Prelude.{is_some}
 use Rattle.px_real_values.specs.Operands.{typed_as}
 use Rattle.px_real_values.specs.Views.{operand_seen}
-use Rattle.px_real_values.proofs.OperandLemmas.{given_as, negated_int, negated_other}
+use Rattle.px_real_values.proofs.OperandLemmas.{given_as, negated_int}
 use Rattle.px_real_values.proofs.operators.negated.Goals as goal
 
 pub returns-then-is_typed : goal.returns-then-is_typed

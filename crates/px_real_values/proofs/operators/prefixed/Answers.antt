@@ -1,4 +1,4 @@
-use Rattle.std.proofs.Common.{◌≡◌, ◌∙◌, sym, ap}
+use Rattle.std.proofs.Common.{◌∙◌, sym, ap}
 use Rattle.px_real_values.specs.Operators.{taking}
 use Rattle.px_real_values.specs.Turns.{goes_on}
 use Rattle.px_real_values.specs.Views.{operand_seen}

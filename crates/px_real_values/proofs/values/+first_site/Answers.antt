@@ -1,4 +1,4 @@
-use Rattle.std.proofs.Common.{◌≡◌, ◌∙◌, ap}
+use Rattle.std.proofs.Common.{◌∙◌, ap}
 use Rattle.px_real_reading.specs.Trees.{expression_tree}
 use Rattle.px_real_values.specs.Values.{first_site}
 use Rattle.px_real_values.proofs.SiteLemmas.{site-first}
