@@ -3,7 +3,7 @@ use Rattle.px_real_reading.specs.Trees.{suffix_tree, suffixed}
 use Rattle.px_real_reading.proofs.TreeEquations.{suffix-Call}
 use Rattle.px_real_values.specs.Values.{valued}
 use Rattle.px_real_effects.specs.Effects.{free_at, called_by, performed}
-use Rattle.px_real_effects.proofs.FreeLemmas.{given_of}
+use Rattle.px_real_values.proofs.ArgumentLemmas.{given_of}
 use Rattle.px_real_effects.proofs.StatementLemmas.{put_as}
 use Rattle.px_real_effects.proofs.effects.put_suffixed.Goals as goal
 
