@@ -1,0 +1,10 @@
+pub mod TabledLemmas
+pub mod HeldLemmas
+pub mod SpelledLemmas
+pub mod ListLemmas
+pub mod LabelLemmas
+pub mod LengthLemmas
+pub mod StorageLemmas
+pub mod DeclarationLemmas
+pub mod WalkLemmas
+pub mod WorkedByReading
