@@ -7,4 +7,5 @@ pub mod LengthLemmas
 pub mod StorageLemmas
 pub mod DeclarationLemmas
 pub mod WalkLemmas
+pub mod RunLemmas
 pub mod WorkedByReading

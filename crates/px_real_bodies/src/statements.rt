@@ -126,7 +126,7 @@ fn step<F: Function>(
     on: Texts,
     place: &Place,
 ) -> Result<Box<TypedStatement>, NoMemory>
-    ensures { IfOk result (λ b. typed_statement b.value ≡ Rules.block_of (F.sees function.now) (Rules.acted_if (F.sees function.now) site (texts on.entry) (place_seen place.now))) }
+    ensures { IfOk result (λ b. typed_statement b.value ≡ Rules.block_of (Rules.acted_if (F.sees function.now) site (texts on.entry) (place_seen place.now))) }
 {
     let mut statements = Vec::new(alloc);
     if !on.tokens.is_empty() {
@@ -229,7 +229,7 @@ fn scoped<F: Function>(
     statement: &Statement,
     place: &mut Place,
 ) -> Result<Box<TypedStatement>, NoMemory>
-    ensures { IfOk result (λ b. Rules.IsScoped (F.sees function.now) (Rules.done (F.sees function.now) in_loop (statement_tree (texts on.entry) statement.now) (within (place_seen place.old))) (typed_statement b.value) (place_seen place.new)) }
+    ensures { IfOk result (λ b. Rules.IsScoped (Rules.done (F.sees function.now) in_loop (statement_tree (texts on.entry) statement.now) (within (place_seen place.old))) (typed_statement b.value) (place_seen place.new)) }
 {
     place.scopes.enter()?;
     let mut statements = Vec::new(alloc);
