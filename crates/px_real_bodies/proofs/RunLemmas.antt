@@ -60,6 +60,10 @@ jump_stays f false s word site at = refl
 both_stay : (a b x y : Place) → SameScopes a b → x ≡ a → y ≡ b → SameScopes x y
 both_stay a b x y h e g = (ap (λ (z : Place). z.scopes) e ∙ h.0 ∙ sym (ap (λ (z : Place). z.scopes) g), ap (λ (z : Place). z.next) e ∙ h.1 ∙ sym (ap (λ (z : Place). z.next) g))
 
+-- the names behind specifiers, where these bring this into scope
+abbrev walks_by : Function → Place → List SpecifierTree → List DeclaredTree → Option Scopes → Option Walk
+walks_by f at ss xs o = or_else o (λ st. Some (with_declarators f (in_scopes at st) ss (specified_known st ss) xs)) None
+
 module _ (f : Function) (run : Run) where
   abbrev other : Function
   other = record f { run = run }
@@ -103,18 +107,16 @@ module _ (f : Function) (run : Run) where
     abbrev walk_of : Function → Place → DeclarationTree → Walk
     walk_of g at d = or_else (declared g at d) (λ w. w) (unread_there g site ts at)
 
+    either_same : (ss : List SpecifierTree) (xs : List DeclaredTree) (o : Option Scopes)
+        → SameScopes (or_else (walks_by f a ss xs o) (λ w. w) (unread_there f site ts a)).after (or_else (walks_by other b ss xs o) (λ w. w) (unread_there other site ts b)).after
+    either_same ss xs (Some st) = declarators_same ss (specified_known st ss) xs (in_scopes a st) (in_scopes b st) (refl, h.1)
+    either_same ss xs None = h
+
     declared_same : (d : DeclarationTree) → SameScopes (walk_of f a d).after (walk_of other b d).after
     declared_same (declaration ss xs) =
-        subst (λ st. SameScopes (or_else (by f a a.scopes) (λ w. w) (unread_there f site ts a)).after (or_else (by other b st) (λ w. w) (unread_there other site ts b)).after) h.0
-        (either (with_specifiers (declares_none xs) ss a.scopes))
-      where
-        abbrev walks : Function → Place → Option Scopes → Option Walk
-        walks g at o = or_else o (λ st. Some (with_declarators g (in_scopes at st) ss (specified_known st ss) xs)) None
-        abbrev by : Function → Place → Scopes → Option Walk
-        by g at st = walks g at (with_specifiers (declares_none xs) ss st)
-        either : (o : Option Scopes) → SameScopes (or_else (walks f a o) (λ w. w) (unread_there f site ts a)).after (or_else (walks other b o) (λ w. w) (unread_there other site ts b)).after
-        either (Some st) = declarators_same ss (specified_known st ss) xs (in_scopes a st) (in_scopes b st) (refl, h.1)
-        either None = h
+        subst (λ st. SameScopes (or_else (walks_by f a ss xs (with_specifiers (declares_none xs) ss a.scopes)) (λ w. w) (unread_there f site ts a)).after
+        (or_else (walks_by other b ss xs (with_specifiers (declares_none xs) ss st)) (λ w. w) (unread_there other site ts b)).after) h.0
+        (either_same ss xs (with_specifiers (declares_none xs) ss a.scopes))
     declared_same (assertion g) = h
 
     -- ---- phrases
