@@ -1,0 +1,105 @@
+ghost use Rattle.std.specs.Prelude.{◌≡◌, map, option_map, Some, IfOk};
+ghost use Rattle.px_real_symbols.specs.Symbols.{held_in};
+ghost use Rattle.px_real_members.specs.Trees.{parameters_tree, head_tree};
+ghost use Rattle.px_real_types.specs.Scopes.{texts};
+ghost use Rattle.px_real_types.specs.declared.shape.Shape.TheVariants.{Outside};
+ghost use Rattle.px_real_types.specs.Declarators.{function_in};
+ghost use Rattle.px_real_scopes.specs.Functions.{parameters_in};
+ghost use Rattle.px_real_scopes.specs.Views.{function_view};
+ghost use Rattle.px_real_functions.specs.Parameters as Rules;
+ghost use Rattle.px_real_functions.specs.Views.{heading_view};
+
+use crate::parameters::{all_declare_parameters, old_names};
+use px_real_declaring::DeclarationFault;
+use px_real_members::{Head, Parameters, parameters_of};
+use px_real_names::enumerated::within;
+use px_real_scopes::{Function, Meaning, Scopes};
+use px_real_symbols::Span;
+use px_real_types::{Shape, Texts, declared_name, function_in};
+use px_terms::NoMemory;
+use std::alloc::Global;
+
+/// What the head of a definition says: the function, and its parameters as they are declared.
+#[derive(Drop)]
+pub struct Heading {
+    pub function: Function,
+    pub(crate) parameters: Parameters,
+    // Where their list stands among the tokens of the head.
+    pub(crate) held: Span,
+}
+
+// What stands between the parentheses of a function, where it is read.
+fn parameters_in(alloc: Global, scopes: &Scopes, on: Texts) -> Result<Option<Parameters>, NoMemory>
+    ensures { IfOk result (λ o. option_map (parameters_tree (texts on.entry)) o ≡ parameters_in scopes.now (texts on.entry)) }
+{
+    match parameters_of(alloc, on.source, on.tokens, scopes) {
+        Ok(parameters) => Ok(Some(parameters)),
+        Err(DeclarationFault::NoMemory) => Err(NoMemory),
+        Err(DeclarationFault::NotADeclaration(_) | DeclarationFault::Deep(_)) => Ok(None),
+    }
+}
+
+// A function of the same type.
+fn copied(alloc: Global, function: &Function) -> Result<Function, NoMemory>
+    ensures { IfOk result (λ f. function_view f ≡ function_view function.now) }
+{
+    Ok(Function {
+        parameters: Vec::from_slice(alloc, &function.parameters)?,
+        takes_more: function.takes_more,
+        result: function.result,
+    })
+}
+
+// The function that the name of a head means.
+fn function_named<'a>(scopes: &'a Scopes, head: &Head) -> Option<&'a Function>
+    ensures { (on : Texts) → option_map (λ f. function_view f.now) result ≡ Rules.function_named scopes.entry.now (head_tree (texts on) head.now) }
+{
+    let name = declared_name(&head.declarator)?;
+    match scopes.meaning(name.as_slice()) {
+        Some(Meaning::Function { function, .. }) => Some(function),
+        _ => None,
+    }
+}
+
+// The heading of a function with these parameters, unless something else is declared behind them.
+fn headed(
+    alloc: Global,
+    head: &Head,
+    function: &Function,
+    parameters: Parameters,
+    held: Span,
+) -> Result<Option<Heading>, NoMemory>
+    ensures { (on : Texts) → IfOk result (λ o. option_map (heading_view (texts on)) o ≡ Rules.headed (head_tree (texts on) head.now) (function_view function.now) (parameters_tree (held_in (texts on) held) parameters)) }
+{
+    if !all_declare_parameters(old_names(&parameters), &head.declarations) {
+        return Ok(None);
+    }
+    Ok(Some(Heading {
+        function: copied(alloc, function)?,
+        parameters,
+        held,
+    }))
+}
+
+/// What the head of a definition says, where it is in scope; nothing where it isn't that of a function whose parameters are read, or where
+/// something else is declared behind them.
+pub fn heading_of(
+    alloc: Global,
+    scopes: &Scopes,
+    on: Texts,
+    head: &Head,
+) -> Result<Option<Heading>, NoMemory>
+    ensures { IfOk result (λ o. option_map (heading_view (texts on.entry)) o ≡ Rules.heading scopes.now (head_tree (texts on.entry) head.now)) }
+{
+    let Some(function) = function_named(scopes, head) else {
+        return Ok(None);
+    };
+    let Some(signature) = function_in(&head.declarator, on, Shape::Outside) else {
+        return Ok(None);
+    };
+    let held = signature.parameters;
+    match parameters_in(alloc, scopes, within(on, held))? {
+        Some(parameters) => headed(alloc, head, function, parameters, held),
+        None => Ok(None),
+    }
+}
