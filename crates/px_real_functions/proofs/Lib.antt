@@ -1,1 +1,3 @@
-mod WorkedByReading
+pub mod KeptLemmas
+pub mod ShapedLemmas
+pub mod WorkedByReading

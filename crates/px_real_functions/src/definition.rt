@@ -22,11 +22,11 @@ use crate::parameters::{old_names, parameter_names};
 use crate::run::Run;
 use px_real_blocks::Statement;
 use px_real_bodies::{Function, Place, put_all_statements};
-use px_real_declaring::{Declaration, DeclarationFault};
+use px_real_declaring::Declaration;
 use px_real_locals::AddressedNames;
 use px_real_members::{Head, Parameters};
 use px_real_names::enumerated::within;
-use px_real_scopes::{Meaning, Scopes};
+use px_real_scopes::{Meaning, Scopes, is_memory};
 use px_real_types::{Base, Known, ProfileType, Shape, Texts};
 use px_syntax::{Name, TypedBody, TypedStatement};
 use px_terms::{Items, NoMemory, TypeId, ValueType};
@@ -108,8 +108,13 @@ fn add_declaration(
 {
     match scopes.declare_parameters(alloc, on, declaration) {
         Ok(()) => Ok(()),
-        Err(DeclarationFault::NoMemory) => Err(NoMemory),
-        Err(DeclarationFault::NotADeclaration(_) | DeclarationFault::Deep(_)) => Ok(()),
+        Err(fault) => {
+            if is_memory(fault) {
+                Err(NoMemory)
+            } else {
+                Ok(())
+            }
+        }
     }
 }
 

@@ -1,19 +1,17 @@
-ghost use Rattle.std.specs.Prelude.{◌≡◌, map, option_map, Some, IfOk};
+ghost use Rattle.std.specs.Prelude.{◌≡◌, List, option_map, IfOk};
+ghost use Rattle.px_real_expressions.specs.Lexemes.{Lexeme};
 ghost use Rattle.px_real_symbols.specs.Symbols.{held_in};
 ghost use Rattle.px_real_members.specs.Trees.{parameters_tree, head_tree};
 ghost use Rattle.px_real_types.specs.Scopes.{texts};
-ghost use Rattle.px_real_types.specs.declared.shape.Shape.TheVariants.{Outside};
-ghost use Rattle.px_real_types.specs.Declarators.{function_in};
 ghost use Rattle.px_real_scopes.specs.Functions.{parameters_in};
-ghost use Rattle.px_real_scopes.specs.Views.{function_view};
+ghost use Rattle.px_real_scopes.specs.Views.{function_view, meaning_view};
 ghost use Rattle.px_real_functions.specs.Parameters as Rules;
 ghost use Rattle.px_real_functions.specs.Views.{heading_view};
 
 use crate::parameters::{all_declare_parameters, old_names};
-use px_real_declaring::DeclarationFault;
 use px_real_members::{Head, Parameters, parameters_of};
 use px_real_names::enumerated::within;
-use px_real_scopes::{Function, Meaning, Scopes};
+use px_real_scopes::{Function, Meaning, Scopes, is_memory};
 use px_real_symbols::Span;
 use px_real_types::{Shape, Texts, declared_name, function_in};
 use px_terms::NoMemory;
@@ -34,8 +32,13 @@ fn parameters_in(alloc: Global, scopes: &Scopes, on: Texts) -> Result<Option<Par
 {
     match parameters_of(alloc, on.source, on.tokens, scopes) {
         Ok(parameters) => Ok(Some(parameters)),
-        Err(DeclarationFault::NoMemory) => Err(NoMemory),
-        Err(DeclarationFault::NotADeclaration(_) | DeclarationFault::Deep(_)) => Ok(None),
+        Err(fault) => {
+            if is_memory(fault) {
+                Err(NoMemory)
+            } else {
+                Ok(None)
+            }
+        }
     }
 }
 
@@ -50,15 +53,22 @@ fn copied(alloc: Global, function: &Function) -> Result<Function, NoMemory>
     })
 }
 
-// The function that the name of a head means.
-fn function_named<'a>(scopes: &'a Scopes, head: &Head) -> Option<&'a Function>
-    ensures { (on : Texts) → option_map (λ f. function_view f.now) result ≡ Rules.function_named scopes.entry.now (head_tree (texts on) head.now) }
+// The function that is meant, if it is one.
+fn function_meant<'a>(meaning: Option<&'a Meaning>) -> Option<&'a Function>
+    ensures { option_map (λ f. function_view f.now) result ≡ Rules.function_meant (option_map (λ m. meaning_view m.now) meaning.entry) }
 {
-    let name = declared_name(&head.declarator)?;
-    match scopes.meaning(name.as_slice()) {
+    match meaning {
         Some(Meaning::Function { function, .. }) => Some(function),
         _ => None,
     }
+}
+
+// The function that the name of a head means.
+fn function_named<'a>(scopes: &'a Scopes, head: &Head) -> Option<&'a Function>
+    ensures { (all : List Lexeme) → option_map (λ f. function_view f.now) result ≡ Rules.function_named scopes.entry.now (head_tree all head.now) }
+{
+    let name = declared_name(&head.declarator)?;
+    function_meant(scopes.meaning(name.as_slice()))
 }
 
 // The heading of a function with these parameters, unless something else is declared behind them.
@@ -69,7 +79,7 @@ fn headed(
     parameters: Parameters,
     held: Span,
 ) -> Result<Option<Heading>, NoMemory>
-    ensures { (on : Texts) → IfOk result (λ o. option_map (heading_view (texts on)) o ≡ Rules.headed (head_tree (texts on) head.now) (function_view function.now) (parameters_tree (held_in (texts on) held) parameters)) }
+    ensures { IfOk result (λ o. (all : List Lexeme) → option_map (heading_view all) o ≡ Rules.headed (head_tree all head.now) (function_view function.now) (parameters_tree (held_in all held) parameters)) }
 {
     if !all_declare_parameters(old_names(&parameters), &head.declarations) {
         return Ok(None);

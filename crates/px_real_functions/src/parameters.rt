@@ -13,13 +13,40 @@ use px_terms::NoMemory;
 use std::alloc::Global;
 
 // The name that a parameter is declared with.
-fn parameter_name(parameter: &Declaration) -> Option<&Name>
+fn parameter_name(parameter: &Declaration) -> Option<&[u8]>
     ensures { (all : List Lexeme) → option_map (λ n. n.now) result ≡ Rules.parameter_name (declaration_tree all parameter.now) }
 {
-    match parameter {
-        Declaration::Declaration { declared, .. } => declared_name(&declared.first()?.declarator),
-        Declaration::Assertion(_) => None,
+    let Declaration::Declaration { declared, .. } = parameter else {
+        return None;
+    };
+    let first = declared.first()?;
+    let name = declared_name(&first.declarator)?;
+    Some(name.as_slice())
+}
+
+// Those of all that are declared, in order.
+fn declared_names<'a>(
+    alloc: Global,
+    declarations: &'a [Declaration],
+) -> Result<Vec<Option<&'a [u8]>>, NoMemory>
+    ensures { IfOk result (λ v. (all : List Lexeme) → map (option_map (λ n. n.now)) v.items ≡ map Rules.parameter_name (map (declaration_tree all) declarations.entry.now)) }
+{
+    let mut names = Vec::new(alloc);
+    for declaration in declarations {
+        names.push(parameter_name(declaration))?;
     }
+    Ok(names)
+}
+
+// These names, in order.
+fn listed_names<'a>(alloc: Global, words: &'a [Name]) -> Result<Vec<Option<&'a [u8]>>, NoMemory>
+    ensures { IfOk result (λ v. map (option_map (λ n. n.now)) v.items ≡ map Rules.with_its_name words.entry.now) }
+{
+    let mut names = Vec::new(alloc);
+    for word in words {
+        names.push(Some(word.as_slice()))?;
+    }
+    Ok(names)
 }
 
 // The names of all parameters, in order.
@@ -29,20 +56,10 @@ pub fn parameter_names<'a>(
 ) -> Result<Vec<Option<&'a [u8]>>, NoMemory>
     ensures { IfOk result (λ v. (all : List Lexeme) → map (option_map (λ n. n.now)) v.items ≡ Rules.parameter_names (parameters_tree all parameters.entry.now)) }
 {
-    let mut names = Vec::new(alloc);
     match parameters {
-        Parameters::Declared { parameters, .. } => {
-            for parameter in parameters {
-                names.push(parameter_name(parameter).map(|name| name.as_slice()))?;
-            }
-        }
-        Parameters::Names(words) => {
-            for word in words {
-                names.push(Some(word.as_slice()))?;
-            }
-        }
+        Parameters::Declared { parameters, .. } => declared_names(alloc, parameters),
+        Parameters::Names(words) => listed_names(alloc, words),
     }
-    Ok(names)
 }
 
 // The names of an old-style definition's parameters.
