@@ -1,5 +1,5 @@
 -- The look for the name of what isn't read, token by token.
-use Rattle.std.proofs.Common.{◌≡◌, ◌∙◌, refl, sym, ap, ap₂, ℕ, zero, suc, ◌-◌, ◌<◌, Bool, true, false, ◌&&◌, List, [], ◌∷◌, Option, Some, None, arith}
+use Rattle.std.proofs.Common.{◌≡◌, ◌∙◌, sym, ap, ap₂, ℕ, zero, suc, ◌-◌, ◌<◌, Bool, true, false, ◌&&◌, List, ◌∷◌, Option, Some, arith}
 use Rattle.std.specs.Prelude.{if◌then◌else◌}
 use Rattle.px_expressions.specs.Terminals.{is_in}
 use Rattle.px_real_cutting.specs.Roles.{own_words}

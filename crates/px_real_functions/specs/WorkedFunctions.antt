@@ -166,7 +166,7 @@ pub record OldStyle : Type 0 where
   pub undeclared : Makes (codes "int g ( c , n , q ) char c ; int q [ ] ;") (codes "{ return * q + n ; }") (V.Int ∷ pointer 0 ∷ []) (Some V.Int) []
       (returns (T.arithmetic A.Add (T.cell (local 1 53) first_cell (record { 0 = 0 }) (column 51)) (local 0 57)))
   -- an address is taken of one that is not declared
-  pub undeclared_address : Makes (codes "int f ( a ) ") (codes "{ gp = & a ; return a ; }") (V.Int ∷ []) (Some V.Int) [] (returns (stop [] (w (codes "int")) (column 34)))
+  pub undeclared_address : Makes (codes "int f ( a )") (codes "{ gp = & a ; return a ; }") (V.Int ∷ []) (Some V.Int) [] (returns (stop [] (w (codes "int")) (column 33)))
 
 pub record Bodies : Type 0 where
   -- a parameter whose address is taken is one still, but no local

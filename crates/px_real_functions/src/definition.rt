@@ -64,10 +64,11 @@ fn kept_values<R: Run>(
     ensures { IfOk result (λ v. v ≡ map (Rules.value_of (R.sees run.now)) (Rules.kept_types types.now)) }
 {
     let mut values = Vec::new(alloc);
-    for kind in types {
-        if let Some(kind) = kind {
-            values.push(value_of(run, *kind))?;
-        }
+    for kept in types {
+        let Some(kind) = kept else {
+            continue;
+        };
+        values.push(value_of(run, *kind))?;
     }
     Ok(Items::from_vec(values))
 }
@@ -181,10 +182,11 @@ fn add_locals(
 {
     let mut number = 0;
     for at in 0..names.len().min(types.len()) {
-        if let Some(kind) = types[at] {
-            add_parameter(alloc, scopes, addressed, names[at], number, kind)?;
-            number += 1;
-        }
+        let Some(kind) = types[at] else {
+            continue;
+        };
+        add_parameter(alloc, scopes, addressed, names[at], number, kind)?;
+        number += 1;
     }
     Ok(())
 }

@@ -81,16 +81,18 @@ pub fn shaped_name<T: TypeNames>(
         if open > 0 {
             open = open_behind(symbol.terminal, open);
             attribute = false;
-        } else if attribute && symbol.terminal == Terminal::OpenParenthesis {
+            continue;
+        }
+        if attribute && symbol.terminal == Terminal::OpenParenthesis {
             open = 1;
             attribute = false;
-        } else {
-            let word = text(on.source, symbol.start, symbol.end);
-            if is_called(types, on.source, symbol, &symbols[at + 1..]) {
-                return Ok(Some(Name::from_slice(alloc, word)?));
-            }
-            attribute = is_own_word(word);
+            continue;
         }
+        let word = text(on.source, symbol.start, symbol.end);
+        if is_called(types, on.source, symbol, &symbols[at + 1..]) {
+            return Ok(Some(Name::from_slice(alloc, word)?));
+        }
+        attribute = is_own_word(word);
     }
     Ok(None)
 }
