@@ -10,10 +10,14 @@ use Rattle.px_real_scopes.specs.Scopes.{FunctionTree, MeaningTree, a_function, S
 use Rattle.px_real_scopes.specs.Lookups.{meaning_of}
 use Rattle.px_real_scopes.specs.Functions.{parameters_in}
 
+abbrev pub first_name : List DeclaredTree → Option (List ℕ)
+first_name [] = None
+first_name (x ∷ xs) = declared_name x.declarator
+
 -- the name that a parameter is declared with, if it has one
 abbrev pub parameter_name : DeclarationTree → Option (List ℕ)
-parameter_name (declaration ss (x ∷ xs)) = declared_name x.declarator
-parameter_name _ = None
+parameter_name (declaration ss xs) = first_name xs
+parameter_name (assertion g) = None
 
 abbrev pub with_its_name : List ℕ → Option (List ℕ)
 with_its_name word = Some word
@@ -72,7 +76,11 @@ listed_in st h = or_else (function_in h.declarator S.Outside) (λ f. parameters_
 abbrev pub headed : HeadTree → FunctionTree → ParametersTree → Option HeadingTree
 headed h f ps = if all_declare_parameters (old_names ps) h.declarations then Some (record { function = f; parameters = ps }) else None
 
+-- with the parameters that are listed
+abbrev pub heading_by : Scopes → HeadTree → FunctionTree → Option HeadingTree
+heading_by st h f = or_else (listed_in st h) (headed h f) None
+
 -- where what is in scope is what the head has declared; none where the head isn't that of a function whose parameters are read, or where
 -- something else is declared behind them
 abbrev pub heading : Scopes → HeadTree → Option HeadingTree
-heading st h = or_else (function_named st h) (λ f. or_else (listed_in st h) (headed h f) None) None
+heading st h = or_else (function_named st h) (heading_by st h) None

@@ -1,4 +1,4 @@
-ghost use Rattle.std.specs.Prelude.{◌≡◌, ◌<◌, ◌^◌, map, option_map, length, false, IfOk, OnOk};
+ghost use Rattle.std.specs.Prelude.{◌≡◌, ◌<◌, ◌^◌, map, option_map, length, false, Some, IfOk, OnOk};
 ghost use Rattle.px_syntax.specs.TypedTree as T;
 ghost use Rattle.px_syntax.specs.TypedViews.{typed_statement};
 ghost use Rattle.px_real_symbols.specs.Symbols.{held_in};
@@ -152,7 +152,24 @@ fn add_declared(
     }
 }
 
-// A parameter is this local, unless its address is taken.
+// A parameter with this name is this local, unless its address is taken.
+fn add_named(
+    alloc: Global,
+    scopes: &mut Scopes,
+    addressed: &AddressedNames,
+    name: &[u8],
+    number: u32,
+    kind: ProfileType,
+) -> Result<(), NoMemory>
+    ensures { OnOk result (scopes.new ≡ Rules.with_parameter (holds addressed.now) (Some name.now) number kind scopes.old) }
+{
+    if addressed.contains(name) {
+        return Ok(());
+    }
+    scopes.add_local(alloc, name, number, kind)
+}
+
+// A parameter is this local, if it has a name.
 fn add_parameter(
     alloc: Global,
     scopes: &mut Scopes,
@@ -164,8 +181,8 @@ fn add_parameter(
     ensures { OnOk result (scopes.new ≡ Rules.with_parameter (holds addressed.now) (option_map (λ n. n.now) name.entry) number kind scopes.old) }
 {
     match name {
-        Some(name) if !addressed.contains(name) => scopes.add_local(alloc, name, number, kind),
-        _ => Ok(()),
+        Some(name) => add_named(alloc, scopes, addressed, name, number, kind),
+        None => Ok(()),
     }
 }
 

@@ -1,4 +1,5 @@
-ghost use Rattle.std.specs.Prelude.{◌≡◌, List, option_map, IfOk};
+ghost use Rattle.std.specs.Prelude.{◌≡◌, List, option_map, None, IfOk};
+ghost use Rattle.px_expressions.specs.Reading.{or_else};
 ghost use Rattle.px_real_expressions.specs.Lexemes.{Lexeme};
 ghost use Rattle.px_real_symbols.specs.Symbols.{held_in};
 ghost use Rattle.px_real_members.specs.Trees.{parameters_tree, head_tree};
@@ -67,8 +68,10 @@ fn function_meant<'a>(meaning: Option<&'a Meaning>) -> Option<&'a Function>
 fn function_named<'a>(scopes: &'a Scopes, head: &Head) -> Option<&'a Function>
     ensures { (all : List Lexeme) → option_map (λ f. function_view f.now) result ≡ Rules.function_named scopes.entry.now (head_tree all head.now) }
 {
-    let name = declared_name(&head.declarator)?;
-    function_meant(scopes.meaning(name.as_slice()))
+    match declared_name(&head.declarator) {
+        Some(name) => function_meant(scopes.meaning(name.as_slice())),
+        None => None,
+    }
 }
 
 // The heading of a function with these parameters, unless something else is declared behind them.
@@ -91,6 +94,40 @@ fn headed(
     }))
 }
 
+// The heading of a function whose parameters these tokens are, if they are read.
+fn heading_with(
+    alloc: Global,
+    scopes: &Scopes,
+    on: Texts,
+    head: &Head,
+    function: &Function,
+    held: Span,
+) -> Result<Option<Heading>, NoMemory>
+    ensures { IfOk result (λ o. option_map (heading_view (texts on.entry)) o ≡ or_else (parameters_in scopes.now (held_in (texts on.entry) held)) (Rules.headed (head_tree (texts on.entry) head.now) (function_view function.now)) None) }
+{
+    let parameters = parameters_in(alloc, scopes, within(on, held))?;
+    match parameters {
+        Some(parameters) => headed(alloc, head, function, parameters, held),
+        None => Ok(None),
+    }
+}
+
+// The heading of a function that the name of the head means.
+fn heading_by(
+    alloc: Global,
+    scopes: &Scopes,
+    on: Texts,
+    head: &Head,
+    function: &Function,
+) -> Result<Option<Heading>, NoMemory>
+    ensures { IfOk result (λ o. option_map (heading_view (texts on.entry)) o ≡ Rules.heading_by scopes.now (head_tree (texts on.entry) head.now) (function_view function.now)) }
+{
+    match function_in(&head.declarator, on, Shape::Outside) {
+        Some(signature) => heading_with(alloc, scopes, on, head, function, signature.parameters),
+        None => Ok(None),
+    }
+}
+
 /// What the head of a definition says, where it is in scope; nothing where it isn't that of a function whose parameters are read, or where
 /// something else is declared behind them.
 pub fn heading_of(
@@ -101,15 +138,8 @@ pub fn heading_of(
 ) -> Result<Option<Heading>, NoMemory>
     ensures { IfOk result (λ o. option_map (heading_view (texts on.entry)) o ≡ Rules.heading scopes.now (head_tree (texts on.entry) head.now)) }
 {
-    let Some(function) = function_named(scopes, head) else {
-        return Ok(None);
-    };
-    let Some(signature) = function_in(&head.declarator, on, Shape::Outside) else {
-        return Ok(None);
-    };
-    let held = signature.parameters;
-    match parameters_in(alloc, scopes, within(on, held))? {
-        Some(parameters) => headed(alloc, head, function, parameters, held),
+    match function_named(scopes, head) {
+        Some(function) => heading_by(alloc, scopes, on, head, function),
         None => Ok(None),
     }
 }

@@ -12,16 +12,32 @@ use px_syntax::Name;
 use px_terms::NoMemory;
 use std::alloc::Global;
 
+// The bytes of a name.
+fn text_of<'a>(name: Option<&'a Name>) -> Option<&'a [u8]>
+    ensures { option_map (λ n. n.now) result ≡ option_map (λ n. n.now) name.entry }
+{
+    match name {
+        Some(name) => Some(name.as_slice()),
+        None => None,
+    }
+}
+
+// The name of the first that is declared.
+fn first_name(declared: &[Declared]) -> Option<&[u8]>
+    ensures { (all : List Lexeme) → option_map (λ n. n.now) result ≡ Rules.first_name (map (declared_tree all) declared.now) }
+{
+    let first = declared.first()?;
+    text_of(declared_name(&first.declarator))
+}
+
 // The name that a parameter is declared with.
 fn parameter_name(parameter: &Declaration) -> Option<&[u8]>
     ensures { (all : List Lexeme) → option_map (λ n. n.now) result ≡ Rules.parameter_name (declaration_tree all parameter.now) }
 {
-    let Declaration::Declaration { declared, .. } = parameter else {
-        return None;
-    };
-    let first = declared.first()?;
-    let name = declared_name(&first.declarator)?;
-    Some(name.as_slice())
+    match parameter {
+        Declaration::Declaration { declared, .. } => first_name(declared),
+        Declaration::Assertion(_) => None,
+    }
 }
 
 // Those of all that are declared, in order.

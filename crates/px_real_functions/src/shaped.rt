@@ -1,7 +1,9 @@
-ghost use Rattle.std.specs.Prelude.{◌≡◌, ◌<◌, map, IfOk};
+ghost use Rattle.std.specs.Prelude.{◌≡◌, ◌<◌, ◌≤◌, ◌+◌, ◌&&◌, drop, IfOk};
 ghost use Rattle.px_expressions.specs.Terminals.{is_in};
 ghost use Rattle.px_real_cutting.specs.Roles.{own_words};
-ghost use Rattle.px_real_symbols.specs.Symbols.{see};
+ghost use Rattle.px_real_expressions.specs.declared.terminal.Terminal.TheVariants as K;
+ghost use Rattle.px_real_expressions.specs.Lexemes.{same};
+ghost use Rattle.px_real_symbols.specs.Symbols.{see, seen};
 ghost use Rattle.px_real_types.specs.Scopes.{texts};
 ghost use Rattle.px_real_functions.specs.Shaped as Rules;
 
@@ -9,7 +11,7 @@ use px_expressions::text;
 use px_real_declaring::reading::NoTypes;
 use px_real_expressions::Terminal;
 use px_real_symbols::TypeNames;
-use px_real_symbols::symbol::{Symbol, symbols};
+use px_real_symbols::symbol::{Symbol, Tokens, first, symbols};
 use px_real_types::Texts;
 use px_syntax::Name;
 use px_terms::NoMemory;
@@ -40,7 +42,8 @@ fn is_own_word(word: &[u8]) -> bool
 // How many parentheses of an attribute are open behind a token.
 fn open_behind(terminal: Terminal, before: usize) -> usize
     requires { before < usize.MAX }
-    ensures { result ≡ Rules.open_behind terminal before }
+    ensures exact { result ≡ Rules.open_behind terminal before }
+    ensures most { result ≤ before + 1 }
 {
     match terminal {
         Terminal::OpenParenthesis => before + 1,
@@ -49,20 +52,29 @@ fn open_behind(terminal: Terminal, before: usize) -> usize
     }
 }
 
-// Whether a token is a name that is no type's, directly before a parenthesis: that with this number, if it is one.
-fn is_called<T: TypeNames>(types: &T, source: &[u8], symbol: Symbol, behind: &[Symbol]) -> bool
-    ensures { result ≡ Rules.is_called (T.named types.now) (see source.now symbol) (map (see source.now) behind.now) }
+// Whether a token begins them, behind the word of an attribute or not.
+fn begins_attribute(attribute: bool, terminal: Terminal) -> bool
+    ensures { result ≡ (attribute && same terminal K.OpenParenthesis) }
 {
-    if symbol.terminal != Terminal::Name {
-        return false;
-    }
-    if types.is_type(text(source, symbol.start, symbol.end)) {
-        return false;
-    }
-    match behind.first() {
-        Some(next) => next.terminal == Terminal::OpenParenthesis,
+    attribute && terminal == Terminal::OpenParenthesis
+}
+
+// Whether a parenthesis opens at this number.
+fn begins_group(on: Tokens, at: usize) -> bool
+    ensures { result ≡ Rules.begins_group (drop at (seen on.entry)) }
+{
+    match first(on, at) {
+        Some((next, _)) => next.terminal == Terminal::OpenParenthesis,
         None => false,
     }
+}
+
+// Whether a token is a name that is no type's, directly before a parenthesis, which has this number.
+fn is_called<T: TypeNames>(types: &T, on: Tokens, symbol: Symbol, at: usize) -> bool
+    ensures { result ≡ Rules.is_called (T.named types.now) (see on.entry.source.now symbol) (drop at (seen on.entry)) }
+{
+    symbol.terminal == Terminal::Name
+        && (!types.is_type(text(on.source, symbol.start, symbol.end)) && begins_group(on, at))
 }
 
 /// The name of what has the shape of a function and isn't read, where these words are names of types.
@@ -74,6 +86,10 @@ pub fn shaped_name<T: TypeNames>(
     ensures { IfOk result (λ o. o ≡ Rules.shaped_name (T.named types.now) (texts on.entry)) }
 {
     let symbols = symbols(alloc, on.source, &NoTypes, on.tokens)?;
+    let all = Tokens {
+        source: on.source,
+        symbols: &symbols,
+    };
     let mut attribute = false;
     let mut open = 0;
     for at in 0..symbols.len() {
@@ -83,13 +99,13 @@ pub fn shaped_name<T: TypeNames>(
             attribute = false;
             continue;
         }
-        if attribute && symbol.terminal == Terminal::OpenParenthesis {
+        if begins_attribute(attribute, symbol.terminal) {
             open = 1;
             attribute = false;
             continue;
         }
         let word = text(on.source, symbol.start, symbol.end);
-        if is_called(types, on.source, symbol, &symbols[at + 1..]) {
+        if is_called(types, all, symbol, at + 1) {
             return Ok(Some(Name::from_slice(alloc, word)?));
         }
         attribute = is_own_word(word);
