@@ -1,10 +1,10 @@
 -- The parameters that are kept, one after the other.
 use Rattle.std.proofs.Common.{◌≡◌, ◌∙◌, refl, sym, ap, ap₂, ℕ, ◌+◌, ◌-◌, ◌<◌, ◌≤◌, min, Bool, true, false, Err, List, [], ◌∷◌, ◌++◌, map, length, drop, get_or, Option, Some, None, codes, append_assoc, append-nil, arith}
+use Rattle.std.specs.Prelude.{if◌then◌else◌}
+use Rattle.std.specs.Str.{bytes_eq}
 use Rattle.std.proofs.lemmas.List.{drop_more, drop_all, length-map, length-drop}
 use Rattle.px_terms.specs.declared.types.ValueType.{ValueType}
 use Rattle.px_syntax.specs.TypedTree.{Statement}
-use Rattle.std.specs.Prelude.{if◌then◌else◌}
-use Rattle.std.specs.Str.{bytes_eq}
 use Rattle.px_expressions.specs.Reading.{or_else}
 use Rattle.px_expressions.specs.Terminals.{is_in}
 use Rattle.px_real_declaring.specs.declared.reading.DeclarationFault.{DeclarationFault}

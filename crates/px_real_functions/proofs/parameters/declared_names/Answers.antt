@@ -1,4 +1,4 @@
-use Rattle.std.proofs.Common.{◌≡◌, ◌++◌, ◌∷◌, [], map, option_map, ap, ◌∙◌}
+use Rattle.std.proofs.Common.{map, option_map, ap, ◌∙◌}
 use Rattle.std.proofs.lemmas.List.{map-append}
 use Rattle.px_real_declaring.specs.Trees.{declaration_tree}
 use Rattle.px_real_scopes.proofs.TurnLemmas.{put_behind}
@@ -7,7 +7,5 @@ use Rattle.px_real_functions.proofs.parameters.declared_names.Goals as goal
 
 pub loop-declaration-preserved : goal.loop-declaration-preserved
 loop-declaration-preserved c = λ all.
-    let view = option_map (λ n. n.now) in
-    let done = c.loop-declaration.names.items in
-    put_behind (λ d. parameter_name (declaration_tree all d)) c.args.declarations.now c.loop-declaration.declaration-index c.declaration-item.result (map view done) (map view c.push.new.self.items) (view c.parameter_name.result)
-    c.loop-declaration-test.true c.declaration-item.is (ap (map view) c.in_ok-push.ensures.items ∙ map-append view done (c.parameter_name.result ∷ [])) (c.parameter_name.ensures all) (c.loop-declaration.invariant all)
+    put_behind (λ d. parameter_name (declaration_tree all d)) c.args.declarations.now c.loop-declaration.declaration-index c.declaration-item.result _ _ _ c.loop-declaration-test.true c.declaration-item.is
+    (ap (map (option_map (λ n. n.now))) c.in_ok-push.ensures.items ∙ map-append _ _ _) (c.parameter_name.ensures all) (c.loop-declaration.invariant all)
