@@ -1,4 +1,6 @@
-ghost use Rattle.std.specs.Prelude.{◌≡◌, length, map, IfOk};
+ghost use Rattle.std.specs.Prelude.{◌≡◌, ◌+◌, length, map, slice_get, None, IfOk};
+ghost use Rattle.px_expressions.specs.Reading.{or_else};
+ghost use Rattle.px_real_types.specs.Types.{same_base, same_type};
 ghost use Rattle.px_real_scopes.specs.Views.{member_view};
 ghost use Rattle.px_real_program.specs.Structs as Rules;
 ghost use Rattle.px_real_program.specs.Steps.{IsPlaces};
@@ -18,17 +20,46 @@ pub fn run_number(structs: &[u32], number: u32) -> u32
     }
 }
 
+// A base of such a file in the numbers of the run.
+fn base_in_run(structs: &[u32], base: Base) -> Base
+    ensures { result ≡ Rules.renumbered_base (Rules.run_number structs.now) base }
+{
+    match base {
+        Base::Int => Base::Int,
+        Base::Struct(number) => Base::Struct(run_number(structs, number)),
+    }
+}
+
 /// A type of such a file in the numbers of the run.
 pub fn in_run(structs: &[u32], kind: ProfileType) -> ProfileType
     ensures { result ≡ Rules.in_run structs.now kind }
 {
-    let base = match kind.base {
-        Base::Int => Base::Int,
-        Base::Struct(number) => Base::Struct(run_number(structs, number)),
-    };
     ProfileType {
-        base,
+        base: base_in_run(structs, kind.base),
         stars: kind.stars,
+    }
+}
+
+// The first place of a number of the run.
+fn place_of(places: &[Option<u32>], run: u32) -> Option<u32>
+    ensures { result ≡ or_else (slice_get places.now run) (λ o. o) None }
+{
+    match places.get(run as usize) {
+        Some(place) => *place,
+        None => None,
+    }
+}
+
+// A number beyond those of a file.
+fn beyond(structs: &[u32], run: u32) -> Result<u32, NoMemory>
+    ensures { IfOk result (λ n. n ≡ length structs.now + run) }
+{
+    let Ok(count) = u32::try_from(structs.len()) else {
+        return Err(NoMemory);
+    };
+    match count.checked_add(run) {
+        Some(number) => Ok(number),
+        None => Err(NoMemory),
     }
 }
 
@@ -38,15 +69,20 @@ pub fn file_number(structs: &[u32], places: &[Option<u32>], run: u32) -> Result<
     requires { IsPlaces structs.now places.now }
     ensures { IfOk result (λ n. n ≡ Rules.file_number structs.now run) }
 {
-    if let Some(Some(number)) = places.get(run as usize) {
-        return Ok(*number);
-    }
-    let Ok(count) = u32::try_from(structs.len()) else {
-        return Err(NoMemory);
-    };
-    match count.checked_add(run) {
+    match place_of(places, run) {
         Some(number) => Ok(number),
-        None => Err(NoMemory),
+        None => beyond(structs, run),
+    }
+}
+
+// A base of the run in the numbers of such a file.
+fn base_in_file(structs: &[u32], places: &[Option<u32>], base: Base) -> Result<Base, NoMemory>
+    requires { IsPlaces structs.now places.now }
+    ensures { IfOk result (λ b. b ≡ Rules.renumbered_base (Rules.file_number structs.now) base) }
+{
+    match base {
+        Base::Int => Ok(Base::Int),
+        Base::Struct(number) => Ok(Base::Struct(file_number(structs, places, number)?)),
     }
 }
 
@@ -59,10 +95,7 @@ pub fn in_file(
     requires { IsPlaces structs.now places.now }
     ensures { IfOk result (λ t. t ≡ Rules.in_file structs.now kind) }
 {
-    let base = match kind.base {
-        Base::Int => Base::Int,
-        Base::Struct(number) => Base::Struct(file_number(structs, places, number)?),
-    };
+    let base = base_in_file(structs, places, kind.base)?;
     Ok(ProfileType {
         base,
         stars: kind.stars,
@@ -79,15 +112,48 @@ pub fn cell_in_run(structs: &[u32], member: Member) -> Option<ProfileType>
     }
 }
 
+// Whether two stand behind the stars of one type.
+fn same_base(a: Base, b: Base) -> bool
+    ensures { result ≡ same_base a b }
+{
+    match (a, b) {
+        (Base::Int, Base::Int) => true,
+        (Base::Struct(a), Base::Struct(b)) => a == b,
+        _ => false,
+    }
+}
+
+fn same_type(a: ProfileType, b: ProfileType) -> bool
+    ensures { result ≡ same_type a b }
+{
+    same_base(a.base, b.base) && a.stars == b.stars
+}
+
 // Whether two are one type, or none.
 fn same_cell(a: Option<ProfileType>, b: Option<ProfileType>) -> bool
     ensures { result ≡ same_cell a b }
 {
     match (a, b) {
-        (Some(a), Some(b)) => a == b,
+        (Some(a), Some(b)) => same_type(a, b),
         (None, None) => true,
         _ => false,
     }
+}
+
+// Whether a member is that of another file.
+fn same_field(
+    structs: &[u32],
+    member: &NamedMember,
+    other_structs: &[u32],
+    other: &NamedMember,
+) -> bool
+    ensures { result ≡ same_field (Rules.field_of structs.now (member_view member.now)) (Rules.field_of other_structs.now (member_view other.now)) }
+{
+    member.name.as_slice() == other.name.as_slice()
+        && same_cell(
+            cell_in_run(structs, member.member),
+            cell_in_run(other_structs, other.member),
+        )
 }
 
 /// Whether members of two files are the same.
@@ -103,11 +169,7 @@ pub fn same_fields(
         return false;
     }
     for at in 0..members.len() {
-        if members[at].name.as_slice() != others[at].name.as_slice() {
-            return false;
-        }
-        let cell = cell_in_run(structs, members[at].member);
-        if !same_cell(cell, cell_in_run(other_structs, others[at].member)) {
+        if !same_field(structs, &members[at], other_structs, &others[at]) {
             return false;
         }
     }

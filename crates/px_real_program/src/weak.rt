@@ -1,4 +1,4 @@
-ghost use Rattle.std.specs.Prelude.{◌≡◌, ◌||◌, map};
+ghost use Rattle.std.specs.Prelude.{◌≡◌, map};
 ghost use Rattle.px_real_symbols.specs.Symbols.{held_in};
 ghost use Rattle.px_real_declaring.specs.Trees.{group_tree, specifier_tree, declarator_tree};
 ghost use Rattle.px_real_types.specs.declared.words.Mark.TheVariants.{Weakens};
@@ -26,17 +26,23 @@ fn is_weak_word(word: &[u8]) -> bool
         || word == b"__ifunc__".as_slice()
 }
 
-// Whether one stands in what is held.
-fn held_weakens(on: Texts, held: Span) -> bool
-    ensures { result ≡ any_marks Weakens (held_in (texts on.entry) held) }
+// Whether one stands among these.
+fn any_weakens(on: Texts) -> bool
+    ensures { result ≡ any_marks Weakens (texts on.entry) }
 {
-    let inside = within(on, held);
-    for token in inside.tokens {
-        if is_weak_word(text(inside.source, token.start, token.end)) {
+    for token in on.tokens {
+        if is_weak_word(text(on.source, token.start, token.end)) {
             return true;
         }
     }
     false
+}
+
+// Whether one stands in what is held.
+fn held_weakens(on: Texts, held: Span) -> bool
+    ensures { result ≡ any_marks Weakens (held_in (texts on.entry) held) }
+{
+    any_weakens(within(on, held))
 }
 
 // Whether one of these attributes makes weak.
@@ -51,15 +57,23 @@ fn groups_weaken(on: Texts, groups: &[Group]) -> bool
     false
 }
 
+// Whether it is an attribute that does.
+fn weakens(on: Texts, specifier: &Specifier) -> bool
+    ensures { result ≡ Rules.weakens (specifier_tree (texts on.entry) specifier.now) }
+{
+    match specifier {
+        Specifier::Group(group) => held_weakens(on, group.held),
+        _ => false,
+    }
+}
+
 /// Whether an attribute among specifiers makes weak.
 pub fn specifiers_weaken(on: Texts, specifiers: &[Specifier]) -> bool
     ensures { result ≡ Rules.any_weakens (map (specifier_tree (texts on.entry)) specifiers.now) }
 {
     for specifier in specifiers {
-        if let Specifier::Group(group) = specifier {
-            if held_weakens(on, group.held) {
-                return true;
-            }
+        if weakens(on, specifier) {
+            return true;
         }
     }
     false
@@ -77,12 +91,20 @@ pub fn declarator_weakens(declarator: &Declarator, on: Texts) -> bool
             attributes,
             inner,
             ..
-        } => groups_weaken(on, attributes) || declarator_weakens(inner, on),
+        } => {
+            let mut weak = groups_weaken(on, attributes);
+            weak |= declarator_weakens(inner, on);
+            weak
+        }
         Declarator::Pointer {
             qualifiers,
             target,
             ..
-        } => specifiers_weaken(on, qualifiers) || declarator_weakens(target, on),
+        } => {
+            let mut weak = specifiers_weaken(on, qualifiers);
+            weak |= declarator_weakens(target, on);
+            weak
+        }
         Declarator::Suffixed { core, .. } => declarator_weakens(core, on),
     }
 }
