@@ -23,6 +23,10 @@ pub begins_none : (ts : List Lexeme) → None ≡ first ts → false ≡ begins_
 begins_none [] h = refl
 begins_none (t ∷ ts) h = absurd cc
 
+-- nothing is left
+pub none_named : (types : Types) (attribute : Bool) (n : ℕ) (ts : List Lexeme) {o : Option (List ℕ)} → ts ≡ [] → shaped_from types attribute n ts ≡ o → None ≡ o
+none_named types attribute n ts h so_far = sym (ap (shaped_from types attribute n) h) ∙ so_far
+
 module _ (types : Types) (attribute : Bool) (t : Lexeme) (ts all : List Lexeme) (left : all ≡ t ∷ ts) {o : Option (List ℕ)} where
   -- in the parentheses of an attribute
   pub goes_on : (n : ℕ) → 0 < n → shaped_from types attribute n all ≡ o → shaped_from types false (open_behind t.terminal n) ts ≡ o

@@ -77,6 +77,33 @@ fn is_called<T: TypeNames>(types: &T, on: Tokens, symbol: Symbol, at: usize) -> 
         && (!types.is_type(text(on.source, symbol.start, symbol.end)) && begins_group(on, at))
 }
 
+// The name of what these tokens are.
+fn shaped_in<T: TypeNames>(alloc: Global, on: Tokens, types: &T) -> Result<Option<Name>, NoMemory>
+    ensures { IfOk result (λ o. o ≡ Rules.shaped_name (T.named types.now) (seen on.entry)) }
+{
+    let mut attribute = false;
+    let mut open = 0;
+    for at in 0..on.symbols.len() {
+        let symbol = on.symbols[at];
+        if open > 0 {
+            open = open_behind(symbol.terminal, open);
+            attribute = false;
+            continue;
+        }
+        if begins_attribute(attribute, symbol.terminal) {
+            open = 1;
+            attribute = false;
+            continue;
+        }
+        let word = text(on.source, symbol.start, symbol.end);
+        if is_called(types, on, symbol, at + 1) {
+            return Ok(Some(Name::from_slice(alloc, word)?));
+        }
+        attribute = is_own_word(word);
+    }
+    Ok(None)
+}
+
 /// The name of what has the shape of a function and isn't read, where these words are names of types.
 pub fn shaped_name<T: TypeNames>(
     alloc: Global,
@@ -90,25 +117,5 @@ pub fn shaped_name<T: TypeNames>(
         source: on.source,
         symbols: &symbols,
     };
-    let mut attribute = false;
-    let mut open = 0;
-    for at in 0..symbols.len() {
-        let symbol = symbols[at];
-        if open > 0 {
-            open = open_behind(symbol.terminal, open);
-            attribute = false;
-            continue;
-        }
-        if begins_attribute(attribute, symbol.terminal) {
-            open = 1;
-            attribute = false;
-            continue;
-        }
-        let word = text(on.source, symbol.start, symbol.end);
-        if is_called(types, all, symbol, at + 1) {
-            return Ok(Some(Name::from_slice(alloc, word)?));
-        }
-        attribute = is_own_word(word);
-    }
-    Ok(None)
+    shaped_in(alloc, all, types)
 }
