@@ -269,7 +269,7 @@ pub fn define<R: Run>(
     ensures behind { IfOk result (λ x. x.1 ≡ Rules.behind_body (R.sees run.now) (holds addressed.now) scopes (head_tree (texts on.entry) head.now) (heading_view (texts on.entry) heading.now) (map (statement_tree (texts inside.entry)) body.now)) }
 {
     let types = &heading.function.parameters;
-    if u32::try_from(types.len()).is_err() {
+    if types.len() > u32::MAX as usize {
         return Err(NoMemory);
     }
     let parameters = kept_values(alloc, run, types)?;

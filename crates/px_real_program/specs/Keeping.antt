@@ -80,9 +80,13 @@ is_selector T.Dot = true
 is_selector T.Arrow = true
 is_selector _ = false
 
+-- a name, unless it is that of a member
+abbrev pub named_text : Bool → Lexeme → List (List ℕ)
+named_text selected t = if same t.terminal T.Name && not selected then t.text ∷ [] else []
+
 abbrev pub names_behind : Bool → List Lexeme → List (List ℕ)
 names_behind selected [] = []
-names_behind selected (t ∷ ts) = if same t.terminal T.Name && not selected then t.text ∷ names_behind false ts else names_behind (is_selector t.terminal) ts
+names_behind selected (t ∷ ts) = named_text selected t ++ names_behind (is_selector t.terminal) ts
 
 abbrev pub names_in : List Lexeme → List (List ℕ)
 names_in ts = names_behind false ts

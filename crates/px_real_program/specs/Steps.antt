@@ -130,7 +130,7 @@ abbrev pub are_among : List (List ℕ) → List ℕ → Bool
 are_among names name = list_any (bytes_eq name) names
 
 abbrev pub is_among : NamedWords → List ℕ → Bool
-is_among s name = are_among (map (λ n. n.now) s.words.keys) name
+is_among s name = is_some (lookup (λ k. bytes_eq name k.now) s.words.entries)
 
 -- ---- which functions are kept
 

@@ -10,7 +10,7 @@ ghost use Rattle.px_real_program.specs.Views.{file_view, defined_view, look_view
 use crate::file::RealFile;
 use crate::looking::{Defined, Look};
 use crate::named::NamedWords;
-use indexmap::IndexSet;
+use indexmap::IndexMap;
 use px_base::MOST_PARAMETERS;
 use px_real_links::{Definition, Fate, FileLinks, fate_of};
 use px_real_scopes::Function;
@@ -139,7 +139,7 @@ pub fn kept_of<'a>(
         reasons.push(reason_of(links, number, &look.defined[number]))?;
     }
     let mut named = NamedWords {
-        words: IndexSet::new(alloc),
+        words: IndexMap::new(alloc),
     };
     named.add_outer(alloc, file)?;
     let kept = keep(alloc, look, links, &reasons, &mut named)?;

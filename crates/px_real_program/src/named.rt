@@ -1,5 +1,6 @@
 ghost use Rattle.std.specs.Prelude.{◌≡◌, ◌||◌, ℕ, List, map, OnOk};
 ghost use Rattle.px_expressions.specs.Terminals.{is_in};
+ghost use Rattle.px_real_symbols.specs.Symbols.{see};
 ghost use Rattle.px_real_declaring.specs.Trees.{declared_tree};
 ghost use Rattle.px_real_items.specs.Trees.{item_tree};
 ghost use Rattle.px_real_types.specs.Scopes.{texts};
@@ -10,7 +11,7 @@ ghost use Rattle.px_real_program.specs.Views.{file_view};
 
 use crate::file::RealFile;
 use crate::looking::tokens_of;
-use indexmap::IndexSet;
+use indexmap::IndexMap;
 use px_expressions::text;
 use px_real_declaring::reading::NoTypes;
 use px_real_declaring::{Declaration, Declared};
@@ -18,7 +19,7 @@ use px_real_expressions::Terminal;
 use px_real_items::{External, FileItem};
 use px_real_names::enumerated::within;
 use px_real_names::slices::some_first;
-use px_real_symbols::symbol::symbols;
+use px_real_symbols::symbol::{Symbol, symbols};
 use px_real_types::Texts;
 use px_terms::NoMemory;
 use std::alloc::Global;
@@ -26,7 +27,7 @@ use std::alloc::Global;
 /// Names that stand in a text. A name is found in constant time.
 #[derive(Drop)]
 pub struct NamedWords<'a> {
-    pub words: IndexSet<&'a [u8]>,
+    pub words: IndexMap<&'a [u8], ()>,
 }
 
 // What stands before a member.
@@ -41,7 +42,36 @@ impl<'a> NamedWords<'a> {
     pub fn contains(&self, name: &[u8]) -> bool
         ensures { result ≡ is_among self.now name.now }
     {
-        self.words.contains(name)
+        self.words.get(name).is_some()
+    }
+
+    // Takes a token in, if it is a name and not that of a member.
+    fn add_symbol(
+        &mut self,
+        source: &'a [u8],
+        symbol: Symbol,
+        selected: bool,
+    ) -> Result<(), NoMemory>
+        ensures { (name : List ℕ) → OnOk result (is_among self.new name ≡ (is_among self.old name || is_in (Rules.named_text selected (see source.entry.now symbol)) name)) }
+    {
+        if symbol.terminal == Terminal::Name && !selected {
+            self.words
+                .insert(text(source, symbol.start, symbol.end), ())?;
+        }
+        Ok(())
+    }
+
+    // Takes these in.
+    fn add_symbols(&mut self, source: &'a [u8], symbols: &[Symbol]) -> Result<(), NoMemory>
+        ensures { (name : List ℕ) → OnOk result (is_among self.new name ≡ (is_among self.old name || is_in (Rules.names_in (map (see source.entry.now) symbols.now)) name)) }
+    {
+        let mut selected = false;
+        for at in 0..symbols.len() {
+            let symbol = symbols[at];
+            self.add_symbol(source, symbol, selected)?;
+            selected = is_selector(symbol.terminal);
+        }
+        Ok(())
     }
 
     /// Takes the names of a text in, but those of members.
@@ -49,17 +79,7 @@ impl<'a> NamedWords<'a> {
         ensures { (name : List ℕ) → OnOk result (is_among self.new name ≡ (is_among self.old name || is_in (Rules.names_in (texts on.entry)) name)) }
     {
         let symbols = symbols(alloc, on.source, &NoTypes, on.tokens)?;
-        let mut selected = false;
-        for symbol in &symbols {
-            if symbol.terminal == Terminal::Name && !selected {
-                self.words
-                    .insert(text(on.source, symbol.start, symbol.end))?;
-                selected = false;
-            } else {
-                selected = is_selector(symbol.terminal);
-            }
-        }
-        Ok(())
+        self.add_symbols(on.source, &symbols)
     }
 
     // Those of initialisers.
