@@ -1,11 +1,12 @@
 -- Names that are taken in, one text after the other.
-use Rattle.std.proofs.Common.{◌≡◌, ◌∙◌, refl, sym, ap, ap₂, ℕ, ◌+◌, ◌<◌, ◌≤◌, Bool, true, false, cond, ◌||◌, ◌&&◌, not, List, [], ◌∷◌, ◌++◌, map, drop, length, slice_index_or, Option, Some, is_some}
+use Rattle.std.proofs.Common.{◌≡◌, ◌∙◌, refl, sym, ap, ℕ, ◌+◌, ◌<◌, ◌≤◌, Bool, true, false, cond, ◌||◌, ◌&&◌, not, List, [], ◌∷◌, ◌++◌, map, drop, length, slice_index_or, Option, Some, is_some}
 use Rattle.std.specs.Prelude.{if◌then◌else◌}
 use Rattle.std.specs.Str.{bytes_eq}
 use Rattle.px_expressions.specs.Terminals.{is_in}
 use Rattle.px_real_expressions.specs.declared.terminal.Terminal.TheVariants as T
 use Rattle.px_real_expressions.specs.Lexemes.{Lexeme, same}
 use Rattle.px_real_symbols.proofs.FrontLemmas.{drop_mapped, drop_past}
+use Rattle.px_real_locals.proofs.LookLemmas.{name_added}
 use Rattle.px_real_program.specs.Keeping.{is_selector, named_text, names_behind}
 
 pub in_append : (xs ys : List (List ℕ)) (name : List ℕ) → is_in (xs ++ ys) name ≡ (is_in xs name || is_in ys name)
@@ -30,6 +31,16 @@ pub none_taken_in : (old : Bool) → old ≡ (old || false)
 none_taken_in true = refl
 none_taken_in false = refl
 
+-- a name is
+pub one_taken_in : {V : Type 0} (v : V) (text name : List ℕ) (old new : Option V) → new ≡ cond (bytes_eq text name) (Some v) old → is_some new ≡ (is_some old || is_in (text ∷ []) name)
+one_taken_in v text name old new h = name_added v (Some text) text name old new refl h ∙ by (bytes_eq name text) (is_some old)
+  where
+    by : (a b : Bool) → (a || b) ≡ (b || (if a then true else false))
+    by true true = refl
+    by true false = refl
+    by false true = refl
+    by false false = refl
+
 -- ---- a text
 
 module _ {A : Type 0} (view : A → Lexeme) (xs : List A) (i : ℕ) (d : A) (selected : Bool) (name : List ℕ) (old whole : Bool) (so_far : (old || is_in (names_behind selected (drop i (map view xs))) name) ≡ whole) where
@@ -49,5 +60,8 @@ module _ {A : Type 0} (view : A → Lexeme) (xs : List A) (i : ℕ) (d : A) (sel
 -- ---- a token
 
 module _ (selected : Bool) (t : Lexeme) (name : List ℕ) (old : Bool) where
+  pub is_named : (same t.terminal T.Name && not selected) ≡ true → (old || is_in (t.text ∷ []) name) ≡ (old || is_in (named_text selected t) name)
+  is_named h = sym (ap (λ b. old || is_in (if b then t.text ∷ [] else []) name) h)
+
   pub not_named : (same t.terminal T.Name && not selected) ≡ false → old ≡ (old || is_in (named_text selected t) name)
   not_named h = none_taken_in old ∙ sym (ap (λ b. old || is_in (if b then t.text ∷ [] else []) name) h)

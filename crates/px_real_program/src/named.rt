@@ -1,5 +1,7 @@
-ghost use Rattle.std.specs.Prelude.{◌≡◌, ◌||◌, ℕ, List, map, OnOk};
+ghost use Rattle.std.specs.Prelude.{◌≡◌, ◌||◌, ◌&&◌, not, ℕ, List, map, OnOk};
 ghost use Rattle.px_expressions.specs.Terminals.{is_in};
+ghost use Rattle.px_real_expressions.specs.declared.terminal.Terminal.TheVariants as K;
+ghost use Rattle.px_real_expressions.specs.Lexemes.{same};
 ghost use Rattle.px_real_symbols.specs.Symbols.{see};
 ghost use Rattle.px_real_declaring.specs.Trees.{declared_tree};
 ghost use Rattle.px_real_items.specs.Trees.{item_tree};
@@ -37,6 +39,13 @@ fn is_selector(terminal: Terminal) -> bool
     terminal == Terminal::Dot || terminal == Terminal::Arrow
 }
 
+// Whether it is a name, and not that of a member.
+fn is_name(selected: bool, terminal: Terminal) -> bool
+    ensures { result ≡ (same terminal K.Name && not selected) }
+{
+    terminal == Terminal::Name && !selected
+}
+
 impl<'a> NamedWords<'a> {
     /// Whether a name is among them.
     pub fn contains(&self, name: &[u8]) -> bool
@@ -54,10 +63,11 @@ impl<'a> NamedWords<'a> {
     ) -> Result<(), NoMemory>
         ensures { (name : List ℕ) → OnOk result (is_among self.new name ≡ (is_among self.old name || is_in (Rules.named_text selected (see source.entry.now symbol)) name)) }
     {
-        if symbol.terminal == Terminal::Name && !selected {
-            self.words
-                .insert(text(source, symbol.start, symbol.end), ())?;
+        if !is_name(selected, symbol.terminal) {
+            return Ok(());
         }
+        self.words
+            .insert(text(source, symbol.start, symbol.end), ())?;
         Ok(())
     }
 
