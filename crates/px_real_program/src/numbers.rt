@@ -1,5 +1,5 @@
 ghost use Rattle.std.specs.Prelude.{◌≡◌, map, option_map, IfOk, IfSome};
-ghost use Rattle.px_real_program.specs.Steps.{IsNumbered, id_of, code_of, type_id_of, kept_at};
+ghost use Rattle.px_real_program.specs.Steps.{IsNumbered, id_of, base_code, code_of, type_id_of, kept_at};
 
 use indexmap::{IndexMap, IndexSet};
 use px_base::ProcId;
@@ -42,14 +42,32 @@ impl<'a> Ids<'a> {
     }
 }
 
+// What stands behind the stars, as one number.
+fn base_code(base: Base) -> Option<u32>
+    ensures { IfSome result (λ n. n ≡ base_code base) }
+{
+    match base {
+        Base::Int => Some(0),
+        Base::Struct(number) => number.checked_add(1),
+    }
+}
+
+// What has such a number.
+fn base_of(code: u32) -> Base
+    ensures { base_code result ≡ code }
+{
+    if code == 0 {
+        Base::Int
+    } else {
+        Base::Struct(code - 1)
+    }
+}
+
 /// A type as one number: each struct has three, by its stars, and so has int.
 pub fn type_code(kind: ProfileType) -> Option<u32>
-    ensures exact { IfSome result (λ n. n ≡ code_of kind) }
+    ensures { IfSome result (λ n. n ≡ code_of kind) }
 {
-    let base = match kind.base {
-        Base::Int => 0,
-        Base::Struct(number) => number.checked_add(1)?,
-    };
+    let base = base_code(kind.base)?;
     base.checked_mul(3)?.checked_add(kind.stars)
 }
 
@@ -57,13 +75,8 @@ pub fn type_code(kind: ProfileType) -> Option<u32>
 pub fn type_of(code: u32) -> ProfileType
     ensures { code_of result ≡ code }
 {
-    let base = code / 3;
     ProfileType {
-        base: if base == 0 {
-            Base::Int
-        } else {
-            Base::Struct(base - 1)
-        },
+        base: base_of(code / 3),
         stars: code % 3,
     }
 }
