@@ -210,9 +210,17 @@ base_code (B.Struct n) = n + 1
 abbrev pub code_of : ProfileType → ℕ
 code_of t = base_code t.base * 3 + t.stars
 
+-- the number of one that has two stars at most, where 32 bits hold it
+abbrev pub coded : ProfileType → Option ℕ
+coded t = if nat_lt t.stars 3 && nat_lt (code_of t) 4294967296 then Some (code_of t) else None
+
+-- all with a number below this, or those that have one here
+abbrev pub id_of_code : TypeIds → ℕ → ℕ
+id_of_code (I.All count) n = if nat_lt n count then n else 0
+id_of_code (I.Named ids) n = unwrap_or (lookup (nat_eq n) ids.entries) 0
+
 abbrev pub type_id_of : TypeIds → ProfileType → ℕ
-type_id_of I.All t = code_of t
-type_id_of (I.Named ids) t = unwrap_or (lookup (nat_eq (code_of t)) ids.entries) 0
+type_id_of s t = or_else (coded t) (id_of_code s) 0
 
 abbrev pub kept_at : Numbers → ℕ → ℕ → Option ℕ
 kept_at s file n = or_else (slice_get s.kept.items file) (λ ns. or_else (slice_get ns.items n) (λ o. o) None) None
@@ -222,7 +230,7 @@ pub record IsNumbered (first : ℕ) (names : List (List ℕ)) (s : Ids) : Type 0
   pub numbers : (name : List ℕ) → id_of s name ≡ first + number_in bytes_eq names name
 
 pub record AreTypesNumbered (types : List ProfileType) (s : TypeIds) : Type 0 where
-  pub numbers : (t : ProfileType) → t.stars ≤ 2 → type_id_of s t ≡ number_in same_type types t
+  pub numbers : (t : ProfileType) → type_id_of s t ≡ number_in same_type types t
 
 pub record AreNumbers (m : NumbersTree) (s : Numbers) : Type 0 where
   pub kept : (file n : ℕ) → IfSome (kept_at s file n) (λ i. id i ≡ kept_id m (file, n))
@@ -233,13 +241,17 @@ pub record AreNumbers (m : NumbersTree) (s : Numbers) : Type 0 where
 
 -- ---- types
 
+-- of a type there are numbers
+abbrev pub IsCoded : ProfileType → Type 0
+IsCoded t = coded t ≡ Some (code_of t)
+
 -- these types are seen, each once
 abbrev pub SeesTypes : NamedTypes → NamedTypes → List ProfileType → Type 0
-SeesTypes old new ts = new.codes.keys ≡ insert_all nat_eq old.codes.keys (map code_of ts)
+SeesTypes old new ts = (new.codes.keys ≡ insert_all nat_eq old.codes.keys (map code_of ts)) × AllByRecursion IsCoded ts
 
 -- these are the types, in order
 abbrev pub AreTypes : List ProfileType → NamedTypes → Type 0
-AreTypes ts s = s.codes.keys ≡ map code_of ts
+AreTypes ts s = (s.codes.keys ≡ map code_of ts) × AllByRecursion IsCoded ts
 
 -- ---- what is known of the files
 

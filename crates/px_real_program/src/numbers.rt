@@ -1,5 +1,5 @@
-ghost use Rattle.std.specs.Prelude.{◌≡◌, map, option_map, IfOk, IfSome};
-ghost use Rattle.px_real_program.specs.Steps.{IsNumbered, id_of, base_code, code_of, type_id_of, kept_at};
+ghost use Rattle.std.specs.Prelude.{◌≡◌, ◌≤◌, map, option_map, Some, IfOk, IfSome, IfNone};
+ghost use Rattle.px_real_program.specs.Steps.{IsNumbered, id_of, base_code, code_of, coded, id_of_code, type_id_of, kept_at};
 
 use indexmap::{IndexMap, IndexSet};
 use px_base::ProcId;
@@ -44,7 +44,8 @@ impl<'a> Ids<'a> {
 
 // What stands behind the stars, as one number.
 fn base_code(base: Base) -> Option<u32>
-    ensures { IfSome result (λ n. n ≡ base_code base) }
+    ensures some { IfSome result (λ n. n ≡ base_code base) }
+    ensures none { IfNone result (4294967296 ≤ base_code base) }
 {
     match base {
         Base::Int => Some(0),
@@ -63,17 +64,21 @@ fn base_of(code: u32) -> Base
     }
 }
 
-/// A type as one number: each struct has three, by its stars, and so has int.
+/// A type as one number: each struct has three, by its stars, and so has int. One with more stars has none.
 pub fn type_code(kind: ProfileType) -> Option<u32>
-    ensures { IfSome result (λ n. n ≡ code_of kind) }
+    ensures { result ≡ coded kind }
 {
+    if kind.stars > 2 {
+        return None;
+    }
     let base = base_code(kind.base)?;
     base.checked_mul(3)?.checked_add(kind.stars)
 }
 
 /// The type of such a number.
 pub fn type_of(code: u32) -> ProfileType
-    ensures { code_of result ≡ code }
+    ensures code { code_of result ≡ code }
+    ensures coded { coded result ≡ Some code }
 {
     ProfileType {
         base: base_of(code / 3),
@@ -84,26 +89,33 @@ pub fn type_of(code: u32) -> ProfileType
 /// How block types are numbered.
 #[derive(Drop)]
 pub enum TypeIds {
-    /// All that there may be, by their codes.
-    All,
+    /// All that there may be, so many, by their codes.
+    All(u32),
     /// Those that are named.
     Named(IndexMap<u32, u32>),
 }
 
 impl TypeIds {
-    /// The number of a type of the run. Takes no memory.
-    pub fn number(&self, kind: ProfileType) -> u32
-        ensures { result ≡ type_id_of self.now kind }
+    // The number of what has this code.
+    fn of_code(&self, code: u32) -> u32
+        ensures { result ≡ id_of_code self.now code }
     {
-        let Some(code) = type_code(kind) else {
-            return 0;
-        };
         match self {
-            TypeIds::All => code,
+            TypeIds::All(count) => { if code < *count { code } else { 0 } }
             TypeIds::Named(ids) => match ids.get(&code) {
                 Some(number) => *number,
                 None => 0,
             },
+        }
+    }
+
+    /// The number of a type of the run; of one that has none, that of the first. Takes no memory.
+    pub fn number(&self, kind: ProfileType) -> u32
+        ensures { result ≡ type_id_of self.now kind }
+    {
+        match type_code(kind) {
+            Some(code) => self.of_code(code),
+            None => 0,
         }
     }
 }

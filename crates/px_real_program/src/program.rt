@@ -22,7 +22,7 @@ use crate::numbers::{Ids, Numbers, TypeIds};
 use crate::procedures::procedures;
 use crate::seen::SeenStructs;
 use crate::sights::Sights;
-use crate::types::{NamedTypes, blocks_of, named_types};
+use crate::types::{NamedTypes, all_types, blocks_of, named_types};
 use indexmap::IndexSet;
 use px_base::ProcId;
 use px_expressions::text;
@@ -153,7 +153,7 @@ fn sights_of(alloc: Global, run: &KnownRun, texts: &IndexSet<&[u8]>) -> Result<S
     requires { IsWhole run.now }
     ensures { (files : List FileTree) → AreKnown (known_files files) run.now → map (λ w. w.now) texts.now.keys ≡ Rules.all_texts files → IfOk result (λ s. AreSeen (let m = Rules.all_numbers files (known_files files) in flat_map in_procedure (Rules.procedures (known_files files) m)) s) }
 {
-    let numbers = numbers_of(alloc, run, texts, texts, TypeIds::All, texts)?;
+    let numbers = numbers_of(alloc, run, texts, texts, all_types(run)?, texts)?;
     let mut sights = Sights {
         functions: IndexSet::new(alloc),
         blocks: IndexSet::new(alloc),

@@ -1,9 +1,11 @@
-ghost use Rattle.std.specs.Prelude.{◌≡◌, ◌+◌, ◌*◌, ◌≤◌, ◌∷◌, List, map, flat_map, IfOk, OnOk};
+ghost use Rattle.std.specs.Prelude.{◌≡◌, ◌+◌, ◌*◌, ◌∷◌, ◌++◌, List, map, flat_map, IfOk, OnOk};
+ghost use Rattle.std.specs.List.{AllByRecursion};
+ghost use Rattle.px_real_types.specs.declared.shape.Base.TheVariants as B;
 ghost use Rattle.px_real_types.specs.declared.shape.ProfileType.{ProfileType as SpecType};
 ghost use Rattle.px_real_types.specs.Types.{int, number_of};
 ghost use Rattle.px_real_program.specs.Numbers.{KnownFile as KnownTree, NumbersTree};
 ghost use Rattle.px_real_program.specs.Programs as Rules;
-ghost use Rattle.px_real_program.specs.Steps.{AreKnown, AreSeenStructs, AreTypesNumbered, AreTypes, SeesTypes, code_of};
+ghost use Rattle.px_real_program.specs.Steps.{AreKnown, AreSeenStructs, AreTypesNumbered, AreTypes, SeesTypes, IsCoded, code_of};
 
 use crate::known::KnownRun;
 use crate::numbers::{TypeIds, type_code, type_of};
@@ -22,10 +24,9 @@ pub struct NamedTypes {
 impl NamedTypes {
     // A base and its pointers up to this type.
     fn see(&mut self, kind: ProfileType) -> Result<(), NoMemory>
-        requires { kind.stars ≤ 2 }
         ensures { OnOk result (SeesTypes self.old self.new (Rules.with_bases kind)) }
     {
-        for stars in 0..kind.stars + 1 {
+        for stars in 0..kind.stars.saturating_add(1) {
             let of = ProfileType {
                 base: kind.base,
                 stars,
@@ -40,7 +41,6 @@ impl NamedTypes {
 
     // What a value of a cell points to.
     fn see_behind(&mut self, kind: ProfileType) -> Result<(), NoMemory>
-        requires { kind.stars ≤ 2 }
         ensures { OnOk result (SeesTypes self.old self.new (Rules.behind_value kind)) }
     {
         if kind.stars == 0 {
@@ -101,10 +101,26 @@ fn struct_in(kind: ProfileType) -> Option<u32>
 }
 
 // How many types there may be.
-fn most_types(run: &KnownRun) -> usize
-    ensures { result ≡ (run.now.count + 1) * 3 }
+fn most_types(run: &KnownRun) -> Result<u32, NoMemory>
+    ensures { IfOk result (λ n. n ≡ (run.now.count + 1) * 3) }
 {
-    run.count.saturating_add(1).saturating_mul(3)
+    let Ok(count) = u32::try_from(run.count) else {
+        return Err(NoMemory);
+    };
+    let Some(bases) = count.checked_add(1) else {
+        return Err(NoMemory);
+    };
+    match bases.checked_mul(3) {
+        Some(most) => Ok(most),
+        None => Err(NoMemory),
+    }
+}
+
+/// The numbers of all types that there may be.
+pub fn all_types(run: &KnownRun) -> Result<TypeIds, NoMemory>
+    ensures { (fs : List KnownTree) → AreKnown fs run.now → IfOk result (AreTypesNumbered (Rules.with_stars B.Int ++ Rules.all_structs (Rules.struct_count fs))) }
+{
+    Ok(TypeIds::All(most_types(run)?))
 }
 
 /// The block types that are named, an int first, by the codes of those that stand in trees; and what their cells lead to.
@@ -114,7 +130,7 @@ pub fn named_types(
     seen: &SeenStructs,
     codes: &IndexSet<u32>,
 ) -> Result<NamedTypes, NoMemory>
-    ensures { (fs : List KnownTree) → AreKnown fs run.now → AreSeenStructs fs seen.now → (ts : List SpecType) → map code_of ts ≡ codes.now.keys → IfOk result (AreTypes (Rules.reached fs (Rules.struct_count fs) (int ∷ flat_map Rules.with_bases ts))) }
+    ensures { (fs : List KnownTree) → AreKnown fs run.now → AreSeenStructs fs seen.now → (ts : List SpecType) → map code_of ts ≡ codes.now.keys → AllByRecursion IsCoded ts → IfOk result (AreTypes (Rules.reached fs (Rules.struct_count fs) (int ∷ flat_map Rules.with_bases ts))) }
 {
     let mut types = NamedTypes {
         codes: IndexSet::new(alloc),
@@ -124,7 +140,7 @@ pub fn named_types(
         types.see(type_of(*code))?;
     }
     // Those that come behind a struct are looked at in their turn, as long as there are more: no more than there may be.
-    for at in 0..most_types(run) {
+    for at in 0..most_types(run)? as usize {
         if at >= types.codes.len() {
             break;
         }
@@ -136,7 +152,6 @@ pub fn named_types(
 
 // The type of the values of an int or a pointer.
 fn value_in(ids: &TypeIds, kind: ProfileType) -> ValueType
-    requires { kind.stars ≤ 2 }
     ensures { (m : NumbersTree) → AreTypesNumbered m.types ids.now → result ≡ Rules.value_in m kind }
 {
     if kind.stars == 0 {
@@ -157,7 +172,6 @@ fn block_in(
     ids: &TypeIds,
     kind: ProfileType,
 ) -> Result<BlockType, NoMemory>
-    requires { kind.stars ≤ 2 }
     ensures { (fs : List KnownTree) (m : NumbersTree) → AreKnown fs run.now → AreSeenStructs fs seen.now → AreTypesNumbered m.types ids.now → IfOk result (λ b. b ≡ Rules.block_in fs m kind) }
 {
     let Some(number) = struct_in(kind) else {
