@@ -1,5 +1,5 @@
 -- What the code comes to, step by step.
-use Rattle.std.specs.Prelude.{◌≡◌, ℕ, ◌+◌, ◌*◌, ◌<◌, ◌≤◌, List, [], ◌∷◌, map, flat_map, filter_map, length, slice_get, slice_index_or, not, ◌&&◌, Bool, false, Option, Some, None, is_some, option_map, unwrap_or, IfSome, codes, nat_eq, ⊤, ⊥, Vec, if◌then◌else◌}
+use Rattle.std.specs.Prelude.{◌≡◌, ℕ, ◌+◌, ◌*◌, ◌<◌, List, [], ◌∷◌, map, flat_map, filter_map, length, slice_get, slice_index_or, not, ◌&&◌, Bool, false, Option, Some, None, is_some, option_map, unwrap_or, IfSome, codes, nat_eq, nat_lt, ⊤, ⊥, Vec, if◌then◌else◌}
 use Rattle.std.specs.declared.alloc.Global.{Global}
 use Rattle.std.specs.Str.{bytes_eq}
 use Rattle.std.specs.Map.{lookup}
