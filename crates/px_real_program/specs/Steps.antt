@@ -58,7 +58,7 @@ use Rattle.px_real_program.specs.Files.{texts_of}
 use Rattle.px_real_program.specs.Looks.{LookTree}
 use Rattle.px_real_program.specs.Structs.{Key, by_tag, by_typedef, by_place, same_key, is_number, file_number, in_run, FieldTree, StructTree, structs_in, says_braces}
 use Rattle.px_real_program.specs.Hidden.{definitions_of}
-use Rattle.px_real_program.specs.Numbers.{KnownFile as KnownTree, structs_of_each, all_links, Place, same_place, NumbersTree, id, kept_id}
+use Rattle.px_real_program.specs.Numbers.{KnownFile as KnownTree, structs_of_each, all_links, Place, same_place, is_kept_at, NumbersTree, id}
 use Rattle.px_real_program.specs.Sights.{Sight, a_block, in_expression, in_condition, function_seen, block_seen, word_seen}
 use Rattle.px_real_program.specs.Programs.{LeftTree, struct_count, says_fields, seen_structs}
 use Rattle.px_real_program.specs.Views.{file_view, defined_view, look_view, numbers_view}
@@ -222,8 +222,16 @@ id_of_code (I.Named ids) n = unwrap_or (lookup (nat_eq n) ids.entries) 0
 abbrev pub type_id_of : TypeIds → ProfileType → ℕ
 type_id_of s t = or_else (coded t) (id_of_code s) 0
 
+-- that of a kept function, by its file and its number there
+abbrev pub kept_in : List (Vec (Option ℕ) Global) → ℕ → ℕ → Option ℕ
+kept_in kept file n = or_else (slice_get kept file) (λ ns. or_else (slice_get ns.items n) (λ o. o) None) None
+
 abbrev pub kept_at : Numbers → ℕ → ℕ → Option ℕ
-kept_at s file n = or_else (slice_get s.kept.items file) (λ ns. or_else (slice_get ns.items n) (λ o. o) None) None
+kept_at s file n = kept_in s.kept.items file n
+
+-- the functions that are kept have their numbers, and no other has one
+abbrev pub AreKeptNumbers : List KnownTree → List Place → List (Vec (Option ℕ) Global) → Type 0
+AreKeptNumbers fs places kept = (file n : ℕ) → kept_in kept file n ≡ (if is_kept_at fs (file, n) then Some (number_in same_place places (file, n)) else None)
 
 -- each has its place behind the first number, and any other that number
 pub record IsNumbered (first : ℕ) (names : List (List ℕ)) (s : Ids) : Type 0 where
@@ -232,8 +240,8 @@ pub record IsNumbered (first : ℕ) (names : List (List ℕ)) (s : Ids) : Type 0
 pub record AreTypesNumbered (types : List ProfileType) (s : TypeIds) : Type 0 where
   pub numbers : (t : ProfileType) → type_id_of s t ≡ number_in same_type types t
 
-pub record AreNumbers (m : NumbersTree) (s : Numbers) : Type 0 where
-  pub kept : (file n : ℕ) → IfSome (kept_at s file n) (λ i. id i ≡ kept_id m (file, n))
+pub record AreNumbers (fs : List KnownTree) (m : NumbersTree) (s : Numbers) : Type 0 where
+  pub kept : AreKeptNumbers fs m.kept s.kept.items
   pub out : IsNumbered (length m.kept) m.out s.out
   pub unknown : IsNumbered (length m.kept + length m.out) m.unknown s.unknown
   pub types : AreTypesNumbered m.types s.types
@@ -328,11 +336,6 @@ has_external ls name = list_any (λ (f : Links.FileTree). list_any (is_external 
 pub record AreExternals (ls : List Links.FileTree) (xs : List External) : Type 0 where
   pub all : (name : List ℕ) → list_any (λ x. bytes_eq name x.name.now) xs ≡ has_external ls name
   pub callees : AllByRecursion (λ x. x.callee ≡ callee_of ls (length ls) x.name.now) xs
-
--- where the kept functions stand by their numbers
-pub record AreKeptNumbers (places : List Place) (kept : List (Vec (Option ℕ) Global)) : Type 0 where
-  pub numbers : (file n : ℕ) → IfSome (or_else (slice_get kept file) (λ ns. or_else (slice_get ns.items n) (λ o. o) None) None) (λ i. i ≡ number_in same_place places (file, n))
-  pub all : (file n : ℕ) → is_some (or_else (slice_get kept file) (λ ns. or_else (slice_get ns.items n) (λ o. o) None) None) ≡ list_any (same_place (file, n)) places
 
 -- what is named, in numbers of the run
 pub record IsNamed (count : ℕ) (m : NumbersTree) (x : Named) : Type 0 where

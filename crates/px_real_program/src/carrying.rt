@@ -137,7 +137,7 @@ fn carried_function(
 
 // What a call of a name that is left out goes to.
 fn left_out(alloc: Global, numbers: &Numbers, name: &[u8]) -> Called
-    ensures { (m : NumbersTree) → AreNumbers m numbers.now → result.proc ≡ Rules.out_id m name.now × called_view result ≡ (if is_some (library_of name.now) then Some (Rules.open_signature (Rules.out_id m name.now)) else None) }
+    ensures { (fs : List KnownTree) (m : NumbersTree) → AreNumbers fs m numbers.now → (result.proc ≡ Rules.out_id m name.now) × (called_view result ≡ (if is_some (library_of name.now) then Some (Rules.open_signature (Rules.out_id m name.now)) else None)) }
 {
     let signature = if is_library(name) {
         Some(Carried {
@@ -165,7 +165,7 @@ fn called_by(
 ) -> Result<Called, NoMemory>
     requires whole { IsWhole run.now }
     requires within { file < length run.now.files.now }
-    ensures { (fs : List KnownTree) (m : NumbersTree) → AreKnown fs run.now → AreNumbers m numbers.now → IfOk result (λ c. c.proc ≡ Rules.called_id m name.now (Rules.if_kept fs callee) × option_map (carried_view c.proc) c.signature ≡ Rules.signature_of fs m file name.now (Rules.if_kept fs callee)) }
+    ensures { (fs : List KnownTree) (m : NumbersTree) → AreKnown fs run.now → AreNumbers fs m numbers.now → IfOk result (λ c. (c.proc ≡ Rules.called_id m name.now (Rules.if_kept fs callee)) × (called_view c ≡ Rules.signature_of fs m file name.now (Rules.if_kept fs callee))) }
 {
     match callee {
         Callee::Function { file: from, number } => {
@@ -230,7 +230,7 @@ pub fn file_run<'a, 'b>(
     requires whole { IsWhole run.entry.now }
     requires within { file < length run.entry.now.files.now }
     requires externals { AreExternals (map file_tree run.entry.now.links.items) externals.now }
-    ensures { (fs : List KnownTree) (m : NumbersTree) → AreKnown fs run.entry.now → AreNumbers m numbers.entry.now → IfOk result (λ r. run_seen r ≡ Rules.seen_by fs m file) }
+    ensures { (fs : List KnownTree) (m : NumbersTree) → AreKnown fs run.entry.now → AreNumbers fs m numbers.entry.now → IfOk result (λ r. run_seen r ≡ Rules.seen_by fs m file) }
 {
     let mut names = IndexMap::new(alloc);
     for definition in &run.links[file].definitions {

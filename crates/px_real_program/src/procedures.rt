@@ -1,4 +1,4 @@
-ghost use Rattle.std.specs.Prelude.{◌≡◌, ◌++◌, List, map, option_map, IfOk, OnOk};
+ghost use Rattle.std.specs.Prelude.{◌≡◌, ◌++◌, List, map, slice_get, option_map, Some, IfOk, OnOk};
 ghost use Rattle.px_syntax.specs.ProgramTree.{procedure_tree};
 ghost use Rattle.px_real_program.specs.Numbers.{KnownFile as KnownTree, NumbersTree, seen_by};
 ghost use Rattle.px_real_program.specs.Programs as Rules;
@@ -38,7 +38,7 @@ fn add_procedures(
     file: usize,
     procedures: &mut Vec<Procedure>,
 ) -> Result<(), NoMemory>
-    ensures { (fs : List KnownTree) (m : NumbersTree) (f : KnownTree) → IsKnown f known.entry → AreNumbers m numbers.now → run_seen run.now ≡ seen_by fs m file → OnOk result (map procedure_tree procedures.new.items ≡ map procedure_tree procedures.old.items ++ Rules.procedures_in fs m file f) }
+    ensures { (fs : List KnownTree) (m : NumbersTree) (f : KnownTree) → slice_get fs file ≡ Some f → IsKnown f known.entry → AreNumbers fs m numbers.now → run_seen run.now ≡ seen_by fs m file → OnOk result (map procedure_tree procedures.new.items ≡ map procedure_tree procedures.old.items ++ Rules.procedures_in fs m file f) }
 {
     let on = known.file.texts();
     let hidden = Vec::from_slice(alloc, known.hidden)?;
@@ -66,7 +66,7 @@ pub fn procedures(
     numbers: &Numbers,
 ) -> Result<Vec<Procedure>, NoMemory>
     requires { IsWhole run.now }
-    ensures { (fs : List KnownTree) (m : NumbersTree) → AreKnown fs run.now → AreNumbers m numbers.now → IfOk result (λ ps. map procedure_tree ps.items ≡ Rules.procedures fs m) }
+    ensures { (fs : List KnownTree) (m : NumbersTree) → AreKnown fs run.now → AreNumbers fs m numbers.now → IfOk result (λ ps. map procedure_tree ps.items ≡ Rules.procedures fs m) }
 {
     let external = externals(alloc, run)?;
     let mut procedures = Vec::new(alloc);

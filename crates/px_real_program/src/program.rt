@@ -93,7 +93,7 @@ fn kept_count(run: &KnownRun) -> Result<u32, NoMemory>
 
 // The numbers of the functions that are kept, in order.
 fn kept_numbers(alloc: Global, run: &KnownRun) -> Result<Vec<Vec<Option<u32>>>, NoMemory>
-    ensures { (fs : List KnownTree) → AreKnown fs run.now → IfOk result (λ v. AreKeptNumbers (kept_places 0 fs) v.items) }
+    ensures { (fs : List KnownTree) → AreKnown fs run.now → IfOk result (λ v. AreKeptNumbers fs (kept_places 0 fs) v.items) }
 {
     let mut all = Vec::new(alloc);
     let mut next: u32 = 0;
@@ -134,7 +134,7 @@ fn numbers_of<'a>(
     types: TypeIds,
     words: &IndexSet<&'a [u8]>,
 ) -> Result<Numbers<'a>, NoMemory>
-    ensures { (fs : List KnownTree) (m : NumbersTree) → AreKnown fs run.now → m.kept ≡ kept_places 0 fs → map (λ w. w.now) out.now.keys ≡ m.out → map (λ w. w.now) unknown.now.keys ≡ m.unknown → AreTypesNumbered m.types types → map (λ w. w.now) words.now.keys ≡ m.words → IfOk result (AreNumbers m) }
+    ensures { (fs : List KnownTree) (m : NumbersTree) → AreKnown fs run.now → m.kept ≡ kept_places 0 fs → map (λ w. w.now) out.now.keys ≡ m.out → map (λ w. w.now) unknown.now.keys ≡ m.unknown → AreTypesNumbered m.types types → map (λ w. w.now) words.now.keys ≡ m.words → IfOk result (AreNumbers fs m) }
 {
     let count = kept_count(run)?;
     let first_unknown = behind(count, out.len())?;
@@ -308,7 +308,7 @@ fn left_of(
     numbers: &Numbers,
     item: &LeftItem,
 ) -> Result<Left, NoMemory>
-    ensures { (fs : List KnownTree) (m : NumbersTree) → AreKnown fs run.now → AreNumbers m numbers.now → IfOk result (λ l. l ≡ Rules.left_of fs m (left_view item.now)) }
+    ensures { (fs : List KnownTree) (m : NumbersTree) → AreKnown fs run.now → AreNumbers fs m numbers.now → IfOk result (λ l. l ≡ Rules.left_of fs m (left_view item.now)) }
 {
     let proc = match &item.defined.name {
         Some(name) => {
@@ -397,7 +397,7 @@ fn assembled(
     procedures: Vec<Procedure>,
 ) -> Result<RealProgram, ProgramFault>
     requires { IsWhole run.now }
-    ensures program { (m : NumbersTree) → let fs = known_files (map file_view files.now) in AreKnown fs run.now → AreSeenStructs fs seen.now → map left_view left.now ≡ Rules.left_in 0 fs → IsNamed (length (Rules.out_names fs)) m named.now → AreNumbers m numbers.now → m.kept ≡ kept_places 0 fs → map procedure_tree procedures.items ≡ Rules.procedures fs m → IfOk result (λ r. run_view r ≡ Rules.program_with (map file_view files.now) fs m) }
+    ensures program { (m : NumbersTree) → let fs = known_files (map file_view files.now) in AreKnown fs run.now → AreSeenStructs fs seen.now → map left_view left.now ≡ Rules.left_in 0 fs → IsNamed (length (Rules.out_names fs)) m named.now → AreNumbers fs m numbers.now → m.kept ≡ kept_places 0 fs → map procedure_tree procedures.items ≡ Rules.procedures fs m → IfOk result (λ r. run_view r ≡ Rules.program_with (map file_view files.now) fs m) }
     ensures few { IfOk result (λ r. r.program.kept ≤ most_procedures) }
     ensures many { (n : ℕ) → IsErrOf result (Procedures n) → (n ≡ length procedures.items) × (most_procedures < n) }
 {
