@@ -50,13 +50,21 @@ fn place_of(places: &[Option<u32>], run: u32) -> Option<u32>
     }
 }
 
+/// A place in a list as a number.
+pub fn as_number(place: usize) -> Result<u32, NoMemory>
+    ensures { IfOk result (λ n. n ≡ place) }
+{
+    match u32::try_from(place) {
+        Ok(number) => Ok(number),
+        Err(_) => Err(NoMemory),
+    }
+}
+
 // A number beyond those of a file.
 fn beyond(structs: &[u32], run: u32) -> Result<u32, NoMemory>
     ensures { IfOk result (λ n. n ≡ length structs.now + run) }
 {
-    let Ok(count) = u32::try_from(structs.len()) else {
-        return Err(NoMemory);
-    };
+    let count = as_number(structs.len())?;
     match count.checked_add(run) {
         Some(number) => Ok(number),
         None => Err(NoMemory),

@@ -15,7 +15,7 @@ ghost use Rattle.px_real_program.specs.Numbers.{structs_of_each, hidden_of_each}
 ghost use Rattle.px_real_program.specs.Steps.{AreDefinitions, AreShown, AreFiles, IsOf, first_found, first_listed, structs_seen, all_structs_seen, struct_seen, look_seen, texts_shown};
 ghost use Rattle.px_real_program.specs.Views.{look_view, numbers_view};
 
-use crate::fields::{cell_count, same_fields};
+use crate::fields::{as_number, cell_count, same_fields};
 use crate::looking::Look;
 use px_expressions::text;
 use px_real_scopes::NamedMember;
@@ -77,7 +77,7 @@ fn all_definitions<'a>(
     all.count.resize(count, 0)?;
     for file in 0..looks.len() {
         for at in 0..structs[file].len() {
-            let number = at as u32;
+            let number = as_number(at)?;
             if looks[file].after.is_defined(number) {
                 let run = structs[file][at] as usize;
                 if all.first[run].is_none() {
@@ -271,7 +271,7 @@ impl<'a, 'b> Files<'a, 'b> {
         for number in 0..self.structs[file].len() {
             let at = At {
                 file,
-                number: number as u32,
+                number: as_number(number)?,
             };
             flags.push(self.is_other(at))?;
         }
@@ -287,7 +287,7 @@ impl<'a, 'b> Files<'a, 'b> {
         for number in 0..flags.len() {
             let at = At {
                 file,
-                number: number as u32,
+                number: as_number(number)?,
             };
             let flag = flags[number] || (self.is_shared(at) && self.points_to(at, flags));
             spread.push(flag)?;
@@ -322,7 +322,7 @@ impl<'a, 'b> Files<'a, 'b> {
         for number in 0..flags.len() {
             let at = At {
                 file,
-                number: number as u32,
+                number: as_number(number)?,
             };
             if self.is_large(at) {
                 flags[number] = true;

@@ -6,6 +6,7 @@ ghost use Rattle.px_real_program.specs.Steps.{AreKnown, IsKnown, IsWhole, IsPlac
 ghost use Rattle.px_real_program.specs.Views.{file_view, defined_view, look_view};
 
 use crate::asked::{Kept, kept_of};
+use crate::fields::as_number;
 use crate::file::RealFile;
 use crate::hidden::{all_hidden, struct_count};
 use crate::keys::run_numbers;
@@ -110,7 +111,7 @@ fn places_of(alloc: Global, structs: &[u32], count: usize) -> Result<Vec<Option<
     for number in 0..structs.len() {
         let run = structs[number] as usize;
         if run < places.len() && places[run].is_none() {
-            places[run] = Some(number as u32);
+            places[run] = Some(as_number(number)?);
         }
     }
     Ok(places)

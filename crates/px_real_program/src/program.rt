@@ -15,6 +15,7 @@ ghost use Rattle.px_real_program.specs.Steps.{AreKnown, IsWhole, AreNumbers, Are
 ghost use Rattle.px_real_program.specs.Views.{file_view, run_view};
 
 use crate::asked::Reason;
+use crate::fields::as_number;
 use crate::file::RealFile;
 use crate::known::{KnownRun, known_run};
 use crate::looking::{Defined, tokens_of};
@@ -116,9 +117,7 @@ fn kept_numbers(alloc: Global, run: &KnownRun) -> Result<Vec<Vec<Option<u32>>>, 
 fn behind(first: u32, count: usize) -> Result<u32, NoMemory>
     ensures { IfOk result (λ n. n ≡ first + count) }
 {
-    let Ok(count) = u32::try_from(count) else {
-        return Err(NoMemory);
-    };
+    let count = as_number(count)?;
     match first.checked_add(count) {
         Some(after) => Ok(after),
         None => Err(NoMemory),

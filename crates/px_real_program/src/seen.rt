@@ -3,7 +3,7 @@ ghost use Rattle.px_real_program.specs.Numbers.{KnownFile as KnownTree};
 ghost use Rattle.px_real_program.specs.Programs as Rules;
 ghost use Rattle.px_real_program.specs.Steps.{AreKnown, IsWhole, AreSeenStructs};
 
-use crate::fields::in_run;
+use crate::fields::{as_number, in_run};
 use crate::hidden::{At, flag_at};
 use crate::known::KnownRun;
 use px_real_types::{Base, Member, ProfileType};
@@ -27,7 +27,7 @@ impl SeenStructs {
         for file in 0..run.files.len() {
             let known = run.file(file);
             for at in 0..known.structs.len() {
-                let number = at as u32;
+                let number = as_number(at)?;
                 let is_seen = !flag_at(known.hidden, number) && known.look.after.is_defined(number);
                 let place = known.structs[at] as usize;
                 if is_seen && place < first.len() && first[place].is_none() {

@@ -7,6 +7,7 @@ ghost use Rattle.px_real_program.specs.Numbers.{KnownFile as KnownTree, NumbersT
 ghost use Rattle.px_real_program.specs.Programs as Rules;
 ghost use Rattle.px_real_program.specs.Steps.{AreKnown, AreSeenStructs, AreTypesNumbered, AreTypes, SeesTypes, IsCoded, code_of};
 
+use crate::fields::as_number;
 use crate::known::KnownRun;
 use crate::numbers::{TypeIds, type_code, type_of};
 use crate::seen::SeenStructs;
@@ -104,9 +105,7 @@ fn struct_in(kind: ProfileType) -> Option<u32>
 fn most_types(run: &KnownRun) -> Result<u32, NoMemory>
     ensures { IfOk result (λ n. n ≡ (run.now.count + 1) * 3) }
 {
-    let Ok(count) = u32::try_from(run.count) else {
-        return Err(NoMemory);
-    };
+    let count = as_number(run.count)?;
     let Some(bases) = count.checked_add(1) else {
         return Err(NoMemory);
     };
