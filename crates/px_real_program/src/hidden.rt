@@ -1,4 +1,4 @@
-ghost use Rattle.std.specs.Prelude.{◌≡◌, ◌<◌, ◌&&◌, List, length, map, flat_map, slice_get, option_map, Some, None, false, IfOk};
+ghost use Rattle.std.specs.Prelude.{◌≡◌, ◌<◌, ◌&&◌, List, [], length, map, flat_map, slice_get, option_map, nat_eq, Some, None, false, IfOk};
 ghost use Rattle.std.specs.Str.{bytes_eq};
 ghost use Rattle.px_expressions.specs.Reading.{or_else};
 ghost use Rattle.px_real_types.specs.Scopes.{texts};
@@ -27,10 +27,17 @@ use std::alloc::Global;
 const MOST_CELLS: usize = 64;
 
 // A struct or union by its file and its number there.
-#[derive(Clone, Copy, PartialEq, Eq)]
+#[derive(Clone, Copy)]
 pub struct At {
     pub file: usize,
     pub number: u32,
+}
+
+// Whether it is the same place.
+fn same_at(a: At, b: At) -> bool
+    ensures { result ≡ (nat_eq a.file b.file && nat_eq a.number b.number) }
+{
+    a.file == b.file && a.number == b.number
 }
 
 // By their numbers in the run: the first definition of each struct, and how many it has.
@@ -59,16 +66,16 @@ pub fn struct_count(structs: &[Vec<u32>]) -> usize
     count
 }
 
-// The definitions of all files, where so many structs are in the run.
+// The definitions of all files.
 fn all_definitions<'a>(
     alloc: Global,
     looks: &[Look<'a>],
     structs: &[Vec<u32>],
-    count: usize,
 ) -> Result<Definitions, NoMemory>
     requires { length looks.now ≡ length structs.now }
     ensures { IfOk result (λ d. AreDefinitions (structs_of_each (numbers_view structs.now) (map look_view looks.now)) d) }
 {
+    let count = struct_count(structs);
     let mut all = Definitions {
         first: Vec::new(alloc),
         count: Vec::new(alloc),
@@ -152,6 +159,16 @@ struct Files<'a, 'b> {
 }
 
 impl<'a, 'b> Files<'a, 'b> {
+    // The numbers in the run of the structs of a file.
+    fn structs_of(&self, file: usize) -> &[u32]
+        ensures { result.now ≡ or_else (slice_get (numbers_view self.now.structs.now) file) (λ ns. ns) [] }
+    {
+        match self.structs.get(file) {
+            Some(structs) => structs,
+            None => &[],
+        }
+    }
+
     // The members of a definition.
     fn members(&self, at: At) -> Option<&[NamedMember]>
         ensures { option_map (λ ms. map member_view ms.now) result ≡ or_else (look_seen self.now at.file) (λ l. members_of l.after at.number) None }
@@ -185,17 +202,15 @@ impl<'a, 'b> Files<'a, 'b> {
 
     // Whether two definitions are the same.
     fn are_same(&self, a: At, b: At) -> bool
-        requires files { AreFiles self.now }
-        requires first { a.file < length self.now.structs.now }
-        requires second { b.file < length self.now.structs.now }
+        requires { AreFiles self.now }
         ensures { IsOf self.now a (λ s. IsOf self.now b (λ r. result ≡ (Rules.same_fields s.fields r.fields && Rules.same_braces s.braces r.braces))) }
     {
         match (self.members(a), self.members(b)) {
             (Some(members), Some(others)) => {
                 same_fields(
-                    &self.structs[a.file],
+                    self.structs_of(a.file),
                     members,
-                    &self.structs[b.file],
+                    self.structs_of(b.file),
                     others,
                 ) && same_braces(self.braces(a), self.braces(b))
             }
@@ -209,7 +224,7 @@ impl<'a, 'b> Files<'a, 'b> {
         ensures { IsOf self.now at (λ s. result ≡ Rules.is_other (all_structs_seen self.now) s) }
     {
         match self.first(at) {
-            Some(first) => first != at && !self.are_same(first, at),
+            Some(first) => !same_at(first, at) && !self.are_same(first, at),
             None => false,
         }
     }
@@ -221,7 +236,7 @@ impl<'a, 'b> Files<'a, 'b> {
     {
         match self.first(at) {
             Some(first) => match self.members(first) {
-                Some(members) => cell_count(&self.structs[first.file], members) > MOST_CELLS,
+                Some(members) => cell_count(self.structs_of(first.file), members) > MOST_CELLS,
                 None => false,
             },
             None => false,
@@ -349,7 +364,7 @@ pub fn all_hidden<'a>(
         looks,
         structs,
         shown,
-        definitions: all_definitions(alloc, looks, structs, struct_count(structs))?,
+        definitions: all_definitions(alloc, looks, structs)?,
     };
     let mut all = Vec::new(alloc);
     for file in 0..looks.len() {
