@@ -1,7 +1,9 @@
 -- What is walked one after the other.
-use Rattle.std.proofs.Common.{◌≡◌, ◌∙◌, refl, sym, ap, subst, List, [], ◌∷◌, ◌++◌, Result, Ok, Err, OnOk, append_assoc, append-nil}
+use Rattle.std.proofs.Common.{◌≡◌, ◌∙◌, refl, sym, ap, subst, List, [], ◌∷◌, ◌++◌, Option, Result, Ok, Err, OnOk, append_assoc, append-nil}
 use Rattle.px_syntax.specs.TypedTree.{Statement}
+use Rattle.px_expressions.specs.Reading.{or_else}
 use Rattle.px_real_bodies.specs.Places.{Place, Walk, behind, Walked, without_statements}
+use Rattle.px_real_bodies.specs.Statements.{one}
 
 abbrev pub walk : List Statement → Place → Walk
 walk trees at = record { trees = trees; after = at }
@@ -31,3 +33,19 @@ walks (Err e) ss old new at h = h
 
 pub walks_as : {E : Type 0} (r : Result Unit E) (w v : Walk) (old new : List Statement) (at : Place) → w ≡ v → OnOk r (Walked w old new at) → OnOk r (Walked v old new at)
 walks_as r w v old new at e h = subst (λ z. OnOk r (Walked z old new at)) e h
+
+-- one statement, which is this one, and leaves this place
+pub one_walked : {E : Type 0} (r : Result Unit E) (s t : Statement) (old new : List Statement) (here at : Place) → s ≡ t → here ≡ at → OnOk r (new ≡ old ++ s ∷ []) → OnOk r (Walked (one t at) old new here)
+one_walked (Ok u) s t old new here at e g h = ap (λ z. walk z here) (h ∙ ap (λ z. old ++ z ∷ []) e) ∙ ap (walk (old ++ t ∷ [])) g
+one_walked (Err e) s t old new here at h g k = k
+
+-- by what was found
+pub or_walked : {A E : Type 0} (r : Result Unit E) (x o : Option A) (some : A → Walk) (none : Walk) (old new : List Statement) (at : Place) → x ≡ o → OnOk r (Walked (or_else x some none) old new at) → OnOk r (Walked (or_else o some none) old new at)
+or_walked r x o some none old new at e h = subst (λ z. OnOk r (Walked (or_else z some none) old new at)) e h
+
+-- where nothing was left before, what is left is what was walked
+pub walked_trees : (w : Walk) (trees : List Statement) (at : Place) → Walked w [] trees at → trees ≡ w.trees
+walked_trees w trees at h = ap (λ (z : Walk). z.trees) h
+
+pub walked_after : (w : Walk) (trees : List Statement) (at : Place) → Walked w [] trees at → at ≡ w.after
+walked_after w trees at h = ap (λ (z : Walk). z.after) h

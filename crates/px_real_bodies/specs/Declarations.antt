@@ -101,6 +101,11 @@ only_item between = only_of (separated 0 between)
 abbrev pub unbraced : List Lexeme → List Lexeme
 unbraced ts = or_else (listed ts) only_item ts
 
+-- an object that begins anew with each execution of its block
+abbrev pub is_automatic : List SpecifierTree → MeaningTree → Bool
+is_automatic ss (an_object k word) = not (is_stored ss)
+is_automatic ss _ = false
+
 module _ (f : Function) where
   abbrev pub is_length : Scopes → List Lexeme → Bool
   is_length st [] = true
@@ -122,11 +127,6 @@ module _ (f : Function) where
   abbrev pub local_type : List SpecifierTree → List ℕ → MeaningTree → Option ProfileType
   local_type ss text (an_object k word) = if is_stored ss || f.is_addressed text then None else in_profile (seen k)
   local_type ss text _ = None
-
-  -- an object that isn't one, which begins anew with each execution of its block
-  abbrev pub is_automatic : List SpecifierTree → MeaningTree → Bool
-  is_automatic ss (an_object k word) = not (is_stored ss)
-  is_automatic ss _ = false
 
   -- the declaration of a local, with what it begins with
   abbrev pub begun : Scopes → ℕ → ProfileType → Option (List Lexeme) → Statement

@@ -43,12 +43,15 @@ module _ (run : Run) where
   abbrev pub callee_of : List ℕ → FunctionTree → Callee
   callee_of name t = or_else (run.definition name) function (library_or (library_of name) (function (declared_signature name t)))
 
-  -- a name that isn't declared
   abbrev pub library_name : List ℕ → Library → Meaning
   library_name name l = other (library l) unknown (run.word_number name)
 
+  abbrev pub known_undeclared : List ℕ → Meaning
+  known_undeclared name = or_else (library_of name) (library_name name) undeclared
+
+  -- a name that isn't declared: the library's, unless a file of the run defines it
   abbrev pub undeclared_meaning : List ℕ → Meaning
-  undeclared_meaning name = or_else (library_of name) (library_name name) undeclared
+  undeclared_meaning name = or_else (run.definition name) (λ s. undeclared) (known_undeclared name)
 
   -- a name as its nearest declaration says
   abbrev pub meant_by : List ℕ → MeaningTree → Meaning

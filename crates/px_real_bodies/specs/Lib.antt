@@ -5,4 +5,5 @@ pub mod Values
 pub mod Declarations
 pub mod Statements
 pub mod Views
+pub mod Laws
 pub mod WorkedBodies

@@ -53,30 +53,34 @@ label_stop (named word site ∷ ls) = label_stop ls
 label_stop (case site held ∷ ls) = Some (codes "case", site)
 label_stop (default site ∷ ls) = Some (codes "default", site)
 
-module _ (f : Function) where
-  abbrev pub one : Statement → Place → Walk
-  one s at = record { trees = s ∷ []; after = at }
+abbrev pub one : Statement → Place → Walk
+one s at = record { trees = s ∷ []; after = at }
 
+abbrev pub block_of : Walk → Statement
+block_of w = T.block (T.statements_of w.trees)
+
+abbrev pub no_statement : Statement
+no_statement = T.block T.no_statements
+
+-- a scope ends
+abbrev pub ended : Walk → Walk
+ended w = record { trees = w.trees; after = outside_of_it w.after }
+
+-- the block of what was walked in a scope of its own, and the place behind it
+abbrev pub IsScoped : Walk → Statement → Place → Type 0
+IsScoped w s at = (s ≡ block_of w) × (at ≡ outside_of_it w.after)
+
+-- the constant 0
+abbrev pub is_never : Scopes → List Lexeme → Bool
+is_never st ts = or_else (expression_in st ts) is_zero false
+
+module _ (f : Function) where
   -- a `Stop` behind these parts
   abbrev pub stopping : List ℕ → Site → List Expression → Place → Walk
   stopping word site ps at = one (T.evaluate (stop ps ((env f at.scopes).word_number word) site)) at
 
   abbrev pub unread_there : Site → List Lexeme → Place → Walk
   unread_there site ts at = one (T.evaluate (unread_at f at.scopes site ts)) at
-
-  abbrev pub block_of : Walk → Statement
-  block_of w = T.block (T.statements_of w.trees)
-
-  -- a scope ends
-  abbrev pub ended : Walk → Walk
-  ended w = record { trees = w.trees; after = outside_of_it w.after }
-
-  -- the block of what was walked in a scope of its own, and the place behind it
-  abbrev pub IsScoped : Walk → Statement → Place → Type 0
-  IsScoped w s at = (s ≡ block_of w) × (at ≡ outside_of_it w.after)
-
-  abbrev pub no_statement : Statement
-  no_statement = T.block T.no_statements
 
   -- ---- what is held
 
@@ -95,9 +99,6 @@ module _ (f : Function) where
   abbrev pub phrased_if : Site → List Lexeme → Place → Walk
   phrased_if site [] at = without_statements at
   phrased_if site (t ∷ ts) at = phrased site (t ∷ ts) at
-
-  abbrev pub is_never : Scopes → List Lexeme → Bool
-  is_never st ts = or_else (expression_in st ts) is_zero false
 
   abbrev pub given_back : Site → List Lexeme → Place → Walk
   given_back site [] at = record { trees = returned (env f at.scopes) f.returns site None; after = at }

@@ -63,6 +63,12 @@ behind_first (t ∷ ts) = ts
 abbrev pub listed : List Lexeme → Option (List Lexeme)
 listed ts = if begins_list ts then Some (without_last (behind_first ts)) else None
 
+-- the parts of the items of a list, in order, where these are those of one
+abbrev pub item_parts : (List Lexeme → List Expression) → List (List Lexeme) → List Expression
+item_parts parts_in [] = []
+item_parts parts_in ([] ∷ xs) = item_parts parts_in xs
+item_parts parts_in ((t ∷ ts) ∷ xs) = parts_in (without_designators (t ∷ ts)) ++ item_parts parts_in xs
+
 module _ (f : Function) (st : Scopes) where
   abbrev pub env : Environment
   env = environment f.run st
@@ -83,12 +89,6 @@ module _ (f : Function) (st : Scopes) where
   abbrev pub decided_if : Site → List Lexeme → Option Condition
   decided_if site [] = None
   decided_if site (t ∷ ts) = Some (decided site (t ∷ ts))
-
-  -- the parts of the items of a list, in order
-  abbrev pub item_parts : (List Lexeme → List Expression) → List (List Lexeme) → List Expression
-  item_parts parts_in [] = []
-  item_parts parts_in ([] ∷ xs) = item_parts parts_in xs
-  item_parts parts_in ((t ∷ ts) ∷ xs) = parts_in (without_designators (t ∷ ts)) ++ item_parts parts_in xs
 
   -- the parts of an initialiser; lists stand within one another so deep
   abbrev pub initialiser_parts : ℕ → Site → List Lexeme → List Expression

@@ -1,6 +1,6 @@
 -- Statements that were worked by hand. In scope are x, a local int; p, a local `struct s *`, whose struct has the cells v, an int, and a char c; T, the
 -- name of int; gc, a global char; and the address of z is taken somewhere.
-use Rattle.std.specs.Prelude.{◌≡◌, ℕ, ◌+◌, ◌*◌, pos, List, [], ◌∷◌, length, Bool, true, false, Option, Some, None, codes}
+use Rattle.std.specs.Prelude.{◌≡◌, ℕ, ◌+◌, ◌*◌, pos, List, [], ◌∷◌, length, Bool, true, false, Option, Some, None, codes, if◌then◌else◌}
 use Rattle.std.specs.Str.{bytes_eq}
 use Rattle.px_base.specs.declared.trace.Site.{Site}
 use Rattle.px_terms.specs.declared.types.ValueType.TheVariants as V
@@ -41,6 +41,10 @@ run = record { definition = λ name. None; proc_number = λ name. record { 0 = w
 
 abbrev pub f : Function
 f = record { run = run; is_addressed = λ name. bytes_eq name (codes "z"); returns = None }
+
+-- in a run of which a file defines `free`
+abbrev pub defines_free : Run
+defines_free = record run { definition = λ name. if bytes_eq name (codes "free") then Some (record { proc = run.proc_number name; parameters = None ∷ []; takes_more = false; result = None }) else None }
 
 abbrev pub pointed : ProfileType
 pointed = pointer_to (struct 0)
@@ -90,6 +94,14 @@ stops ps word n = T.evaluate (stop ps (w word) (column n)) ∷ []
 abbrev pub Does : StatementTree → List Statement → Type 0
 Does s ss = (done f false s start).trees ≡ ss
 
+-- where a file of the run defines `free`
+abbrev pub DoesBesides : StatementTree → List Statement → Type 0
+DoesBesides s ss = (done (record f { run = defines_free }) false s start).trees ≡ ss
+
+-- `free(p)`
+abbrev pub release : List Lexeme
+release = name_at (codes "free") 1 ∷ sign K.OpenParenthesis 5 ∷ name_at (codes "p") 6 ∷ sign K.CloseParenthesis 7 ∷ []
+
 pub record Declarations : Type 0 where
   -- `int y = x;`, `T y = 1;`, `int y, q = y;`
   pub a_local : Does (simple (keyword_at (codes "int") 1 ∷ name_at (codes "y") 5 ∷ equal 7 ∷ x 9 ∷ [])) (T.declare 2 (Some (the_x 9)) ∷ [])
@@ -135,6 +147,12 @@ pub record Statements : Type 0 where
   pub not_read : Does (unread (sign K.CloseBrace 4 ∷ [])) (stops [] (codes "form") 4)
   pub no_expression : Does (simple (x 1 ∷ x 3 ∷ [])) (stops [] (codes "form") 1)
 
+pub record Undeclared : Type 0 where
+  -- `free(p);` is the library's, unless a file of the run defines it
+  pub of_library : Does (simple release) (T.free (T.local 1 (column 6)) (record { 0 = 1 }) (column 1) ∷ [])
+  pub of_a_file : DoesBesides (simple release) (stops (T.local 1 (column 6) ∷ []) (codes "call") 1)
+
 pub record Worked : Type 0 where
   pub declarations : Declarations
   pub statements : Statements
+  pub undeclared : Undeclared

@@ -89,9 +89,9 @@ fn meant_by<'a, F: Function>(function: &'a F, name: &[u8], meaning: &'a Means) -
     }
 }
 
-// A name that isn't declared.
-fn undeclared<'a, F: Function>(function: &F, name: &[u8]) -> Meaning<'a>
-    ensures { meaning_seen result ≡ Rules.undeclared_meaning (F.sees function.now).run name.now }
+// A name that isn't declared, and that no file of the run defines.
+fn known_undeclared<'a, F: Function>(function: &F, name: &[u8]) -> Meaning<'a>
+    ensures { meaning_seen result ≡ Rules.known_undeclared (F.sees function.now).run name.now }
 {
     match library_of(name) {
         Some(library) => Meaning::Other {
@@ -100,6 +100,16 @@ fn undeclared<'a, F: Function>(function: &F, name: &[u8]) -> Meaning<'a>
             word: function.word_number(name),
         },
         None => Meaning::Undeclared,
+    }
+}
+
+// A name that isn't declared: the library's, unless a file of the run defines it.
+fn undeclared<'a, F: Function>(function: &F, name: &[u8]) -> Meaning<'a>
+    ensures { meaning_seen result ≡ Rules.undeclared_meaning (F.sees function.now).run name.now }
+{
+    match function.definition(name) {
+        Some(_) => Meaning::Undeclared,
+        None => known_undeclared(function, name),
     }
 }
 

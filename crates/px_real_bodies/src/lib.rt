@@ -15,6 +15,6 @@ mod storage;
 mod values;
 
 pub use function::Function;
-pub use laws::worked_bodies;
+pub use laws::{scopes_of_all_runs, worked_bodies};
 pub use place::Place;
 pub use statements::{put_all_statements, put_statement};

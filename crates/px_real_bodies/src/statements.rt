@@ -126,7 +126,7 @@ fn step<F: Function>(
     on: Texts,
     place: &Place,
 ) -> Result<Box<TypedStatement>, NoMemory>
-    ensures { IfOk result (λ b. typed_statement b.value ≡ Rules.block_of (F.sees function.now) (Rules.acted_if (F.sees function.now) site (texts on.entry) (place_seen place.now))) }
+    ensures { IfOk result (λ b. typed_statement b.value ≡ Rules.block_of (Rules.acted_if (F.sees function.now) site (texts on.entry) (place_seen place.now))) }
 {
     let mut statements = Vec::new(alloc);
     if !on.tokens.is_empty() {
@@ -229,7 +229,7 @@ fn scoped<F: Function>(
     statement: &Statement,
     place: &mut Place,
 ) -> Result<Box<TypedStatement>, NoMemory>
-    ensures { IfOk result (λ b. Rules.IsScoped (F.sees function.now) (Rules.done (F.sees function.now) in_loop (statement_tree (texts on.entry) statement.now) (within (place_seen place.old))) (typed_statement b.value) (place_seen place.new)) }
+    ensures { IfOk result (λ b. Rules.IsScoped (Rules.done (F.sees function.now) in_loop (statement_tree (texts on.entry) statement.now) (within (place_seen place.old))) (typed_statement b.value) (place_seen place.new)) }
 {
     place.scopes.enter()?;
     let mut statements = Vec::new(alloc);
@@ -276,14 +276,14 @@ fn put_if<F: Function>(
     in_loop: bool,
     site: Site,
     condition: Span,
-    then: &Statement,
+    chosen: &Statement,
     place: &mut Place,
     into: &mut Vec<TypedStatement>,
 ) -> Result<(), NoMemory>
-    ensures { OnOk result (Walked (Rules.done (F.sees function.now) in_loop (choose site (held_in (texts on.entry) condition) (statement_tree (texts on.entry) then.now)) (place_seen place.old)) (map typed_statement into.old.items) (map typed_statement into.new.items) (place_seen place.new)) }
+    ensures { OnOk result (Walked (Rules.done (F.sees function.now) in_loop (choose site (held_in (texts on.entry) condition) (statement_tree (texts on.entry) chosen.now)) (place_seen place.old)) (map typed_statement into.old.items) (map typed_statement into.new.items) (place_seen place.new)) }
 {
     let condition = decided(alloc, function, &place.scopes, site, within(on, condition))?;
-    let then = scoped(alloc, function, on, in_loop, then, place)?;
+    let then = scoped(alloc, function, on, in_loop, chosen, place)?;
     put(
         into,
         TypedStatement::If {
@@ -302,16 +302,16 @@ fn put_if_else<F: Function>(
     in_loop: bool,
     site: Site,
     condition: Span,
-    then: &Statement,
-    other: &Statement,
+    chosen: &Statement,
+    otherwise: &Statement,
     place: &mut Place,
     into: &mut Vec<TypedStatement>,
 ) -> Result<(), NoMemory>
-    ensures { OnOk result (Walked (Rules.done (F.sees function.now) in_loop (choose_else site (held_in (texts on.entry) condition) (statement_tree (texts on.entry) then.now) (statement_tree (texts on.entry) other.now)) (place_seen place.old)) (map typed_statement into.old.items) (map typed_statement into.new.items) (place_seen place.new)) }
+    ensures { OnOk result (Walked (Rules.done (F.sees function.now) in_loop (choose_else site (held_in (texts on.entry) condition) (statement_tree (texts on.entry) chosen.now) (statement_tree (texts on.entry) otherwise.now)) (place_seen place.old)) (map typed_statement into.old.items) (map typed_statement into.new.items) (place_seen place.new)) }
 {
     let condition = decided(alloc, function, &place.scopes, site, within(on, condition))?;
-    let then = scoped(alloc, function, on, in_loop, then, place)?;
-    let other = scoped(alloc, function, on, in_loop, other, place)?;
+    let then = scoped(alloc, function, on, in_loop, chosen, place)?;
+    let other = scoped(alloc, function, on, in_loop, otherwise, place)?;
     put(
         into,
         TypedStatement::If {

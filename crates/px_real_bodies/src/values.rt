@@ -109,7 +109,7 @@ fn put_item<F: Function>(
     on: Texts,
     into: &mut Vec<TypedExpression>,
 ) -> Result<(), NoMemory>
-    ensures { (rest : List (List Lexeme)) → OnOk result (map typed_expression into.new.items ++ Rules.item_parts (F.sees function.now) scopes.now (Rules.initialiser_parts (F.sees function.now) scopes.now depth site) rest ≡ map typed_expression into.old.items ++ Rules.item_parts (F.sees function.now) scopes.now (Rules.initialiser_parts (F.sees function.now) scopes.now depth site) (texts on.entry ∷ rest)) }
+    ensures { (rest : List (List Lexeme)) → OnOk result (map typed_expression into.new.items ++ Rules.item_parts (Rules.initialiser_parts (F.sees function.now) scopes.now depth site) rest ≡ map typed_expression into.old.items ++ Rules.item_parts (Rules.initialiser_parts (F.sees function.now) scopes.now depth site) (texts on.entry ∷ rest)) }
 {
     if on.tokens.is_empty() {
         return Ok(());
@@ -129,7 +129,7 @@ fn put_items<F: Function>(
     on: Texts,
     into: &mut Vec<TypedExpression>,
 ) -> Result<(), NoMemory>
-    ensures { OnOk result (map typed_expression into.new.items ≡ map typed_expression into.old.items ++ Rules.item_parts (F.sees function.now) scopes.now (Rules.initialiser_parts (F.sees function.now) scopes.now depth site) (Rules.separated 0 (texts on.entry))) }
+    ensures { OnOk result (map typed_expression into.new.items ≡ map typed_expression into.old.items ++ Rules.item_parts (Rules.initialiser_parts (F.sees function.now) scopes.now depth site) (Rules.separated 0 (texts on.entry))) }
 {
     let symbols = terminals(alloc, on)?;
     let mut open: usize = 0;

@@ -22,5 +22,5 @@ invariant-put_items-loop-at g l =
     let parts_in = Rules.initialiser_parts f l.scopes l.depth l.site in
     let all = texts l.on in
     (l.open ≤ l.at) × (l.first ≤ l.at)
-    × (map typed_expression l.into.items ++ Rules.item_parts f l.scopes parts_in (onto (held_in all (record { first = l.first; after = l.at })) (Rules.separated l.open (drop l.at all)))
-    ≡ map typed_expression l.initial.into.items ++ Rules.item_parts f l.scopes parts_in (Rules.separated 0 all))
+    × (map typed_expression l.into.items ++ Rules.item_parts parts_in (onto (held_in all (record { first = l.first; after = l.at })) (Rules.separated l.open (drop l.at all)))
+    ≡ map typed_expression l.initial.into.items ++ Rules.item_parts parts_in (Rules.separated 0 all))
