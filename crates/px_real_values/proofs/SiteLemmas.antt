@@ -1,5 +1,5 @@
 -- What stands behind an expression leaves its first token, and makes it no constant and no size.
-use Rattle.std.proofs.Common.{◌≡◌, ◌∙◌, refl, sym, ap, false, List, [], ◌∷◌, map, Option, None, Box, Vec, Global}
+use Rattle.std.proofs.Common.{◌≡◌, ◌∙◌, ◌⊎◌, inl, inr, refl, sym, ap, false, List, [], ◌∷◌, map, None, Box, Vec, Global}
 use Rattle.px_base.specs.declared.trace.Site.{Site}
 use Rattle.px_real_expressions.specs.declared.operators.Operator.{Operator}
 use Rattle.px_real_expressions.specs.Lexemes.{Lexeme}
@@ -10,7 +10,6 @@ use Rattle.px_real_reading.specs.declared.tree.Expression.{Expression}
 use Rattle.px_real_reading.specs.declared.tree.Expression.TheVariants as V
 use Rattle.px_real_reading.specs.Trees.{LinkTree, SuffixTree, an_index, a_call, a_member, a_pointer_member, a_step, expression_tree, suffix_tree, link_tree, chained, suffixed, all_suffixed}
 use Rattle.px_real_reading.proofs.TreeEquations.{tree-Postfix, tree-Binary}
-use Rattle.px_real_types.specs.declared.known.Known.{Known}
 use Rattle.px_real_values.specs.Environment.{Environment}
 use Rattle.px_real_values.specs.Values.{first_site, is_zero, measured}
 
@@ -58,5 +57,13 @@ module _ (all : List Lexeme) (first : Box Expression Global) (before : Vec Suffi
 pub site-Binary : (all : List Lexeme) (first : Box Expression Global) (before : Vec Link Global) (o : Operator) (s : Site) (right : Box Expression Global) →
     first_site (expression_tree all (V.Binary first before o s right)) ≡ first_site (expression_tree all first.value)
 site-Binary all first before o s right = ap first_site (tree-Binary all first before o s right) ∙ site_before_links (expression_tree all first.value) (map (link_tree all) before.items)
+
+-- what begins with another expression begins with its first token
+pub site-first : (all : List Lexeme) (e : Expression) (first : Box Expression Global) →
+    ((before : Vec Suffix Global) × (last : Suffix) × (e ≡ V.Postfix first before last)) ⊎
+    ((before : Vec Link Global) × (o : Operator) × (s : Site) × (right : Box Expression Global) × (e ≡ V.Binary first before o s right)) →
+    first_site (expression_tree all first.value) ≡ first_site (expression_tree all e)
+site-first all e first (inl (before, last, is)) = sym (ap (λ z. first_site (expression_tree all z)) is ∙ site-Postfix all first before last)
+site-first all e first (inr (before, o, s, right, is)) = sym (ap (λ z. first_site (expression_tree all z)) is ∙ site-Binary all first before o s right)
 
 pub ruleset chains = (site-Postfix, site-Binary, zero-Postfix, size-Postfix)

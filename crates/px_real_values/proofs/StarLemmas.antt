@@ -1,5 +1,5 @@
 -- What stands behind a declarator makes it no star, and takes none away. What one declarator spells.
-use Rattle.std.proofs.Common.{◌≡◌, ◌∙◌, Bool, true, false, ℕ, List, [], ◌∷◌, length, map, get_or, ◌||◌, refl, sym, ap, arith}
+use Rattle.std.proofs.Common.{◌≡◌, ◌∙◌, Bool, true, false, List, [], ◌∷◌, length, map, get_or, ◌||◌, refl, sym, ap, arith}
 use Rattle.px_real_expressions.specs.Lexemes.{Lexeme}
 use Rattle.px_real_symbols.specs.Symbols.{held_in}
 use Rattle.px_real_declarations.specs.DeclarationTree.{SpecifierTree, DeclaratorTree, array, function, declaration}

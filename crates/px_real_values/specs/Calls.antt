@@ -1,5 +1,5 @@
 -- What calls are.
-use Rattle.std.specs.Prelude.{ℕ, Bool, true, false, List, [], ◌∷◌, ◌++◌, flat_map, Option, Some, None, codes, if◌then◌else◌}
+use Rattle.std.specs.Prelude.{Bool, true, false, List, [], ◌∷◌, ◌++◌, flat_map, Option, Some, None, codes, if◌then◌else◌}
 use Rattle.px_base.specs.declared.trace.Site.{Site}
 use Rattle.px_terms.specs.declared.types.ValueType.TheVariants as V
 use Rattle.px_syntax.specs.TypedTree as T
@@ -9,7 +9,7 @@ use Rattle.px_real_values.specs.declared.environment.Library.{Library}
 use Rattle.px_real_values.specs.declared.environment.Library.TheVariants as L
 use Rattle.px_real_types.specs.Types.{int}
 use Rattle.px_real_values.specs.Environment.{Environment, Signature, Callee, function, library, no_function, value_type}
-use Rattle.px_real_values.specs.Operands.{Operand, of_type, a_block, a_name, parts, unless_stopped, needed}
+use Rattle.px_real_values.specs.Operands.{Operand, of_type, a_block, a_name, parts, needed}
 use Rattle.px_real_values.specs.Operators.{outside_of, stopped_at}
 
 -- an argument, with its first token

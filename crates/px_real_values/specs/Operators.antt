@@ -18,7 +18,6 @@ use Rattle.px_real_expressions.specs.declared.operators.Measure.{Measure}
 use Rattle.px_real_expressions.specs.declared.operators.Measure.TheVariants as M
 use Rattle.px_real_types.specs.declared.shape.ProfileType.{ProfileType}
 use Rattle.px_real_types.specs.Shapes.{in_profile}
-use Rattle.px_terms.specs.declared.types.TypeId.{TypeId}
 use Rattle.px_real_types.specs.declared.known.Known.{Known}
 use Rattle.px_real_types.specs.declared.known.Known.TheVariants as K
 use Rattle.px_real_types.specs.declared.known.Member.{Member}

@@ -1,10 +1,10 @@
 -- The types that names of types in expressions spell (C11 6.7.7): a type's name is a parameter that has no name.
-use Rattle.std.specs.Prelude.{◌≡◌, List, [], ◌∷◌, map, Bool, false, ◌||◌, Result, Ok, Err}
+use Rattle.std.specs.Prelude.{◌≡◌, List, [], ◌∷◌, Bool, false, ◌||◌, Ok, Err}
 use Rattle.px_real_expressions.specs.declared.terminal.Terminal.{Terminal}
 use Rattle.px_real_expressions.specs.declared.terminal.Terminal.TheVariants as T
 use Rattle.px_real_expressions.specs.Lexemes.{Lexeme}
 use Rattle.px_real_expressions.specs.Stops.{Read}
-use Rattle.px_real_declarations.specs.DeclarationTree.{DeclaratorTree, no_name, a_name, inner, pointer, array, function, DeclarationTree, declaration, assertion}
+use Rattle.px_real_declarations.specs.DeclarationTree.{DeclaratorTree, no_name, a_name, inner, pointer, array, function, DeclarationTree, declaration}
 use Rattle.px_real_declarations.specs.Grammar.{Types, IsParameter}
 use Rattle.px_real_declarations.specs.Reading.{parameter_at}
 use Rattle.px_real_declaring.specs.Items.{nesting_limit}

@@ -1,6 +1,6 @@
-use Rattle.std.proofs.Common.{◌≡◌, ◌∙◌, ◌+◌, sym, ap, map, length, ◌∷◌, [], arith}
+use Rattle.std.proofs.Common.{◌≡◌, ◌∙◌, sym, ap, map, length, ◌∷◌, [], arith}
 use Rattle.std.proofs.lemmas.List.{nil_from_length, length-map}
-use Rattle.std.specs.Vec.Iter.{into_iter_items, into_iter_len}
+use Rattle.std.specs.Vec.Iter.{into_iter_items}
 use Rattle.px_syntax.specs.TypedViews.{typed_argument}
 use Rattle.px_real_values.specs.Calls.{arguments}
 use Rattle.px_real_values.specs.Views.{given_seen}

@@ -1,4 +1,4 @@
-use Rattle.std.proofs.Common.{◌≡◌, ◌∙◌, sym, subst, map, length, true, false, codes, arith}
+use Rattle.std.proofs.Common.{◌≡◌, ◌∙◌, sym, subst, map, length, true, false, arith}
 use Rattle.std.specs.Prelude.{IfOk}
 use Rattle.px_real_values.specs.Operators.{stopped_at}
 use Rattle.std.proofs.lemmas.List.{length-map}

@@ -1,4 +1,4 @@
-use Rattle.std.proofs.Common.{◌≡◌, ◌∙◌, Some, None, [], ◌∷◌, map, sym, ap, subst, codes}
+use Rattle.std.proofs.Common.{◌∙◌, [], ◌∷◌, map, sym, ap, codes}
 use Rattle.px_terms.specs.declared.types.ValueType.TheVariants.{Int}
 use Rattle.px_syntax.specs.TypedTree as T
 use Rattle.px_syntax.specs.TypedViews.{typed_expression, typed_argument}
@@ -6,7 +6,7 @@ use Rattle.px_syntax.proofs.TypedEquations.{typed-Call}
 use Rattle.px_real_values.specs.Operands.{of_type}
 use Rattle.px_real_values.specs.Operators.{outside_of}
 use Rattle.px_real_values.specs.Calls.{gives}
-use Rattle.px_real_values.specs.Views.{operand_seen, signature_seen}
+use Rattle.px_real_values.specs.Views.{signature_seen}
 use Rattle.px_real_values.proofs.calls.gives.Goals as goal
 
 pub returns-in-Some : goal.returns-in-Some

@@ -1,4 +1,4 @@
-use Rattle.std.proofs.Common.{◌≡◌, ◌≢◌, ◌∙◌, map, sym, ap, subst, length, arith}
+use Rattle.std.proofs.Common.{◌≡◌, ◌≢◌, ◌∙◌, map, sym, ap, subst, length}
 use Rattle.std.specs.Prelude.{IfOk}
 use Rattle.px_real_values.specs.Operators.{stopped_at}
 use Rattle.px_real_values.specs.Calls.{all_parts}

@@ -1,4 +1,4 @@
-use Rattle.std.proofs.Common.{◌≡◌, Bool, ◌||◌, sym, ap, ◌∙◌}
+use Rattle.std.proofs.Common.{◌≡◌, sym, ap, ◌∙◌}
 use Rattle.px_real_declaring.specs.Trees.{declarator_tree}
 use Rattle.px_real_declaring.proofs.DeclaratorEquations.{tree-Inner, tree-Pointer}
 use Rattle.px_real_types.proofs.SuffixedLemmas.{tree_is}

@@ -2,7 +2,6 @@ use Rattle.std.proofs.Common.{◌≡◌, ◌∙◌, sym, ap, ap₂, map, length,
 use Rattle.px_real_declaring.specs.Trees.{specifier_tree, declared_tree}
 use Rattle.px_real_types.specs.Scopes.{texts}
 use Rattle.px_real_types.specs.Declarators.{declared_shape}
-use Rattle.px_real_values.specs.Spelled.{Spelled}
 use Rattle.px_real_values.proofs.StarLemmas.{one_declared}
 use Rattle.px_real_values.proofs.spelling.spelled_by.Goals as goal
 

@@ -242,11 +242,13 @@ evaluate-linked-requires g t c κs within =
 pub evaluate-evaluate-requires-in-Choice : goal.evaluate-evaluate-requires-in-Choice
 evaluate-evaluate-requires-in-Choice g t c κs within =
     let all = g.E.Environment.tokens c.args.environment.now in
-    let p = c.in-Choice in
-    (elim p.is [
-      | inl (chosen, otherwise, e) ↦ falls all t c.args.expression.now _ c.deref-in-Choice.result.now _ c.decreases e c.deref-in-Choice.ensures (choice_less all p.site p.condition chosen otherwise)
-      | inr (otherwise, e) ↦ falls all t c.args.expression.now _ c.deref-in-Choice.result.now _ c.decreases e c.deref-in-Choice.ensures (choice_or_less all p.site p.condition otherwise)
-    ], within)
+    let p = c.in-Choice in (
+      elim p.is [
+        | inl (chosen, otherwise, e) ↦ falls all t c.args.expression.now _ c.deref-in-Choice.result.now _ c.decreases e c.deref-in-Choice.ensures (choice_less all p.site p.condition chosen otherwise)
+        | inr (otherwise, e) ↦ falls all t c.args.expression.now _ c.deref-in-Choice.result.now _ c.decreases e c.deref-in-Choice.ensures (choice_or_less all p.site p.condition otherwise)
+      ],
+      within,
+    )
 
 pub evaluate-evaluate-requires-in-Assign : goal.evaluate-evaluate-requires-in-Assign
 evaluate-evaluate-requires-in-Assign g t c κs within =
