@@ -4,7 +4,7 @@ use Rattle.px_base.specs.declared.trace.Site.{Site}
 use Rattle.px_expressions.specs.Reading.{or_else}
 use Rattle.px_real_expressions.specs.Lexemes.{Lexeme}
 use Rattle.px_real_statements.specs.StatementTree.{StatementTree}
-use Rattle.px_real_declarations.specs.DeclarationTree.{SpecifierTree, tagged, declaration, assertion, HeadTree}
+use Rattle.px_real_declarations.specs.DeclarationTree.{SpecifierTree, tagged, DeclarationTree, declaration, assertion, HeadTree}
 use Rattle.px_real_declarations.specs.Names.{declared_name}
 use Rattle.px_real_types.specs.declared.shape.Base.TheVariants as B
 use Rattle.px_real_types.specs.declared.shape.Shape.{Shape}
@@ -49,6 +49,10 @@ abbrev pub unread : Bool → List Lexeme → Scopes → Step
 unread true ts st = left_as_form (shaped_name (are_types st.bindings) ts) ts st
 unread false ts st = without_function st
 
+-- a declaration that isn't read in all that it holds declares nothing
+abbrev pub behind_read : Scopes → DeclarationTree → Scopes
+behind_read st d = or_else (behind st d) (λ st1. st1) st
+
 module _ (run : Run) where
   -- a function, where its head is in scope
   abbrev pub a_function : List Lexeme → HeadTree → List StatementTree → Scopes → HeadingTree → Step
@@ -60,9 +64,9 @@ module _ (run : Run) where
   abbrev pub behind_its_head : List Lexeme → HeadTree → List StatementTree → Scopes → Step
   behind_its_head ts h ss st = or_else (heading st h) (a_function ts h ss st) (left_as_form (declared_name h.declarator) ts st)
 
-  -- a declaration that isn't read in all that it holds declares nothing, and a function with such a head is a form
+  -- a function whose head isn't read in all that it holds is a form
   abbrev pub read : List Lexeme → ExternalTree → Scopes → Step
-  read ts (declares d) st = without_function (or_else (behind st d) (λ st1. st1) st)
+  read ts (declares d) st = without_function (behind_read st d)
   read ts (defines h ss) st = or_else (behind_head st h) (behind_its_head ts h ss) (left_as_form (declared_name h.declarator) ts st)
 
   abbrev pub step : PieceTree → Scopes → Step

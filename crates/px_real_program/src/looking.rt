@@ -16,14 +16,14 @@ ghost use Rattle.px_real_program.specs.Views.{file_view, listed, stepped_view, b
 use crate::file::RealFile;
 use px_base::{ProcId, Site};
 use px_real_blocks::Statement;
-use px_real_declaring::{Declaration, DeclarationFault, Declarator, Specifier};
+use px_real_declaring::{Declaration, Declarator, Specifier};
 use px_real_functions::{Made, Run, define, heading_of, shaped_name};
 use px_real_items::{External, FileItem};
 use px_real_locals::addressed_names;
 use px_real_members::Head;
 use px_real_names::enumerated::within;
 use px_real_names::slices::{skip, some_first};
-use px_real_scopes::{Function, Scopes, Tag};
+use px_real_scopes::{Function, Scopes, Tag, is_memory};
 use px_real_symbols::Span;
 use px_real_types::{Base, ProfileType, Scope, Shape, Texts, declared_name};
 use px_real_values::Signature;
@@ -170,6 +170,27 @@ fn behind(own: Texts<'_>, count: usize) -> Texts<'_>
     }
 }
 
+// What a declaration brings into scope, if all that it holds is read.
+fn declare(
+    alloc: Global,
+    scopes: &mut Scopes,
+    on: Texts,
+    declaration: &Declaration,
+) -> Result<(), NoMemory>
+    ensures { OnOk result (scopes.new ≡ Rules.behind_read scopes.old (declaration_tree (texts on.entry) declaration.now)) }
+{
+    match scopes.declare(alloc, on, declaration) {
+        Ok(()) => Ok(()),
+        Err(fault) => {
+            if is_memory(fault) {
+                Err(NoMemory)
+            } else {
+                Ok(())
+            }
+        }
+    }
+}
+
 // Behind a declaration.
 fn behind_declaration<'a>(
     alloc: Global,
@@ -179,10 +200,7 @@ fn behind_declaration<'a>(
 ) -> Result<Stepped<'a>, NoMemory>
     ensures { (run : SpecRun) → IfOk result (λ s. stepped_view s ≡ Rules.read run (texts own.entry) (declares (declaration_tree (all_but_last (texts own.entry)) declaration.now)) scopes) }
 {
-    match scopes.declare(alloc, all_but_last(own), declaration) {
-        Ok(()) | Err(DeclarationFault::NotADeclaration(_) | DeclarationFault::Deep(_)) => {}
-        Err(DeclarationFault::NoMemory) => return Err(NoMemory),
-    }
+    declare(alloc, &mut scopes, all_but_last(own), declaration)?;
     Ok(Stepped {
         defined: None,
         after: scopes,
@@ -244,11 +262,13 @@ fn behind_function<'a, R: Run>(
 {
     match scopes.declare_function(alloc, some_of(own, start), head) {
         Ok(()) => behind_head(alloc, run, scopes, own, head, start, body),
-        Err(DeclarationFault::NotADeclaration(_) | DeclarationFault::Deep(_)) => {
+        Err(fault) => {
+            if is_memory(fault) {
+                return Err(NoMemory);
+            }
             let name = head_name(alloc, &head.declarator)?;
             Ok(a_form(own, name, scopes))
         }
-        Err(DeclarationFault::NoMemory) => Err(NoMemory),
     }
 }
 
