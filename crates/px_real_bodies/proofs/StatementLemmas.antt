@@ -13,9 +13,11 @@ use Rattle.px_real_bodies.specs.Statements.{breaks, continues, one, block_of, no
 use Rattle.px_real_bodies.proofs.WalkLemmas.{walk, walks_as, one_walked, walked_none, walked_trees, walked_after}
 
 -- what was walked in a scope of its own, as a block
-pub scoped_is : (w v : Walk) (trees : List Statement) (s : Statement) (here at : Place) → w ≡ v → Walked w [] trees here → s ≡ T.block (T.statements_of trees) → at ≡ outside_of_it here → IsScoped v s at
-scoped_is w v trees s here at e h is out =
-    (is ∙ ap (λ z. T.block (T.statements_of z)) (walked_trees w trees here h ∙ ap (λ (z : Walk). z.trees) e), out ∙ ap outside_of_it (walked_after w trees here h ∙ ap (λ (z : Walk). z.after) e))
+pub scoped_is : (w v : Walk) (none trees : List Statement) (s : Statement) (here at : Place) → w ≡ v → none ≡ [] → Walked w none trees here → s ≡ T.block (T.statements_of trees) → at ≡ outside_of_it here → IsScoped v s at
+scoped_is w v none trees s here at e empty h is out = (
+  is ∙ ap (λ z. T.block (T.statements_of z)) (walked_trees w none trees here empty h ∙ ap (λ (z : Walk). z.trees) e),
+  out ∙ ap outside_of_it (walked_after w none trees here h ∙ ap (λ (z : Walk). z.after) e),
+)
 
 -- ---- what may be missing
 
@@ -32,17 +34,18 @@ module _ (f : Function) (site : Site) (at : Place) where
   no_step [] h = refl
   no_step (t ∷ ts) h = absurd (omega arith)
 
-  pub a_step : (ts : List Lexeme) (trees : List Statement) (here : Place) → (length ts ≡ 0 → ⊥) → Walked (acted f site ts at) [] trees here → T.block (T.statements_of trees) ≡ block_of (acted_if f site ts at)
-  a_step [] trees here h w = absurd (h refl)
-  a_step (t ∷ ts) trees here h w = ap (λ z. T.block (T.statements_of z)) (walked_trees (acted f site (t ∷ ts) at) trees here w)
+  pub a_step : (ts : List Lexeme) (none trees : List Statement) (here : Place) → (length ts ≡ 0 → ⊥) → none ≡ [] → Walked (acted f site ts at) none trees here → T.block (T.statements_of trees) ≡ block_of (acted_if f site ts at)
+  a_step [] none trees here h e w = absurd (h refl)
+  a_step (t ∷ ts) none trees here h e w = ap (λ z. T.block (T.statements_of z)) (walked_trees (acted f site (t ∷ ts) at) none trees here e w)
 
 -- ---- statements that hold others
 
 module _ {E : Type 0} (r : Result Unit E) (f : Function) (loop : Bool) (at here : Place) (old new : List Statement) where
-  pub block_walked : (ss : StatementTrees) (start end : Place) (inner : List Statement) → start ≡ within at → Walked (all_done f loop ss start) [] inner end → here ≡ outside_of_it end →
+  pub block_walked : (ss : StatementTrees) (start end : Place) (none inner : List Statement) → start ≡ within at → none ≡ [] → Walked (all_done f loop ss start) none inner end → here ≡ outside_of_it end →
       OnOk r (new ≡ old ++ T.block (T.statements_of inner) ∷ []) → OnOk r (Walked (done f loop (block ss) at) old new here)
-  block_walked ss start end inner begin w out put =
-      let x = scoped_is (all_done f loop ss start) (all_done f loop ss (within at)) inner _ end here (ap (all_done f loop ss) begin) w refl out in
+  block_walked ss start end none inner begin empty w out put =
+      let x : IsScoped (all_done f loop ss (within at)) (T.block (T.statements_of inner)) here =
+      scoped_is (all_done f loop ss start) (all_done f loop ss (within at)) none inner _ end here (ap (all_done f loop ss) begin) empty w refl out in
       one_walked r _ _ old new here _ x.0 x.1 put
 
   pub choose_walked : (site : Site) (held : List Lexeme) (s : StatementTree) (c : Condition) (first second : Statement) → c ≡ decided f at.scopes site held → IsScoped (done f loop s (within at)) first here → second ≡ no_statement →
@@ -83,19 +86,19 @@ module _ {E : Type 0} (r : Result Unit E) (f : Function) (loop : Bool) (at here 
       walks_as r (stopping f (codes "do") site [] at) _ old new here (sym (ap (λ z. if z then one (block_of w) w.after else stopping f (codes "do") site [] at) more))
       (one_walked r _ _ old new here at refl same put)
 
-  pub for_walked : (site : Site) (first held step : List Lexeme) (s : StatementTree) (start mid end : Place) (us ss : List Statement) (c : Option Condition) (body each : Statement) →
-      start ≡ within at → Walked (phrased_if f site first start) [] us mid → c ≡ decided_if f mid.scopes site held → each ≡ block_of (acted_if f site step mid) → IsScoped (done f true s (within mid)) body end →
+  pub for_walked : (site : Site) (first held step : List Lexeme) (s : StatementTree) (start mid end : Place) (none us ss : List Statement) (c : Option Condition) (body each : Statement) →
+      start ≡ within at → none ≡ [] → Walked (phrased_if f site first start) none us mid → c ≡ decided_if f mid.scopes site held → each ≡ block_of (acted_if f site step mid) → IsScoped (done f true s (within mid)) body end →
       here ≡ outside_of_it end → ss ≡ us ++ T.loop site c body each ∷ [] →
       OnOk r (new ≡ old ++ T.block (T.statements_of ss) ∷ []) → OnOk r (Walked (done f loop (for_loop site first held step s) at) old new here)
-  for_walked site first held step s start mid end us ss c body each begin walked test stepped scoped out all put =
+  for_walked site first held step s start mid end none us ss c body each begin empty walked test stepped scoped out all put =
       let u = phrased_if f site first (within at) in
-      let x = subst (λ z. Walked (phrased_if f site first z) [] us mid) begin walked in
-      let is : mid ≡ u.after = walked_after u us mid x in
+      let x = subst (λ z. Walked (phrased_if f site first z) none us mid) begin walked in
+      let is : mid ≡ u.after = walked_after u none us mid x in
       let scope = subst (λ m. IsScoped (done f true s (within m)) body end) is scoped in
       let w = ended (done f true s (within u.after)) in
       one_walked r _ _ old new here _
       (ap (λ z. T.block (T.statements_of z)) (all
-      ∙ ap (λ z. z ++ T.loop site c body each ∷ []) (walked_trees u us mid x)
+      ∙ ap (λ z. z ++ T.loop site c body each ∷ []) (walked_trees u none us mid empty x)
       ∙ ap (λ z. u.trees ++ T.loop site z body each ∷ []) (test ∙ ap (λ (m : Place). decided_if f m.scopes site held) is)
       ∙ ap (λ z. u.trees ++ T.loop site (decided_if f u.after.scopes site held) z each ∷ []) scope.0
       ∙ ap (λ z. u.trees ++ T.loop site (decided_if f u.after.scopes site held) (block_of w) z ∷ []) (stepped ∙ ap (λ m. block_of (acted_if f site step m)) is)))

@@ -44,8 +44,8 @@ pub or_walked : {A E : Type 0} (r : Result Unit E) (x o : Option A) (some : A �
 or_walked r x o some none old new at e h = subst (λ z. OnOk r (Walked (or_else z some none) old new at)) e h
 
 -- where nothing was left before, what is left is what was walked
-pub walked_trees : (w : Walk) (trees : List Statement) (at : Place) → Walked w [] trees at → trees ≡ w.trees
-walked_trees w trees at h = ap (λ (z : Walk). z.trees) h
+pub walked_trees : (w : Walk) (none trees : List Statement) (at : Place) → none ≡ [] → Walked w none trees at → trees ≡ w.trees
+walked_trees w none trees at e h = ap (λ (z : Walk). z.trees) h ∙ ap (λ z. z ++ w.trees) e
 
-pub walked_after : (w : Walk) (trees : List Statement) (at : Place) → Walked w [] trees at → at ≡ w.after
-walked_after w trees at h = ap (λ (z : Walk). z.after) h
+pub walked_after : (w : Walk) (none trees : List Statement) (at : Place) → Walked w none trees at → at ≡ w.after
+walked_after w none trees at h = ap (λ (z : Walk). z.after) h
