@@ -39,6 +39,9 @@ REPLY = bytes.fromhex(
     "00000001 00000000 00000000 00 00 00000000 00000000 00000000 00000000 00000000 00000000"
     "00000001 00000001 14 00000000"
 )
+# The same in version 2. They have no terms.
+SECOND_REQUEST = bytes.fromhex("0000003a 00 02 00000000") + REQUEST[6:]
+SECOND_REPLY = bytes.fromhex("00000048 01 02 00000000") + REPLY[6:]
 
 
 def report(name, line, function="f"):
@@ -244,6 +247,7 @@ def an_input_that_cant_be_read_is_status_3(trial):
 def a_worker_reads_all_of_its_input(trial):
     equal(trial.run("worker", stdin=given(REQUEST * 3)), (0, REPLY * 3, b""))
     equal(trial.run("worker", stdin=given(REQUEST * 2 + REQUEST[:-1])), (7, REPLY * 2, b"bad request at byte 116\n"))
+    equal(trial.run("worker", stdin=given(SECOND_REQUEST + REQUEST + SECOND_REQUEST)), (0, SECOND_REPLY + REPLY + SECOND_REPLY, b""))
     equal(trial.run("worker", stdin=given(b"\0\0")), (7, b"", b"bad request at byte 0\n"))
     read, write = os.pipe()
 
@@ -314,6 +318,28 @@ def a_child_is_the_program_with_one_word(trial):
         equal(file.read().splitlines(), [notes, "1", "worker"])
 
 
+def a_child_that_knows_version_1_alone_is_asked_in_it(trial):
+    """It ends at a request in version 2, and hands on what is in version 1."""
+    name = trial.file("a.c", BUG % b"f")
+    old = trial.script(
+        "old",
+        "exec python3 -c '\n"
+        "import os, subprocess\n"
+        'head = b""\n'
+        "while len(head) < 6 and (more := os.read(0, 6 - len(head))):\n"
+        "    head += more\n"
+        'if head[5:] == b"\\1":\n'
+        '    worker = subprocess.Popen([os.environ["PULSEX_PROGRAM"], "worker"], stdin=subprocess.PIPE)\n'
+        "    while head:\n"
+        "        worker.stdin.write(head)\n"
+        "        worker.stdin.flush()\n"
+        "        head = os.read(0, 65536)\n"
+        "'",
+    )
+    said = report("a.c", 1) + counts(1, 1)
+    equal(trial.with_worker(old, name, env={"PULSEX_PROGRAM": trial.program}), (1, said, stats(1, 0, 1)))
+
+
 def what_a_child_says_beside_its_replies_is_let_go(trial):
     name = trial.file("a.c", BUG % b"f")
     said = report("a.c", 1) + counts(1, 1)
@@ -381,6 +407,7 @@ TRIED = (
     each_domain_rules_something_out,
     a_child_is_sent_and_heard_whole,
     a_child_is_the_program_with_one_word,
+    a_child_that_knows_version_1_alone_is_asked_in_it,
     what_a_child_says_beside_its_replies_is_let_go,
     a_lost_child_is_killed_and_waited_for,
     a_child_that_is_left_is_ended,

@@ -1,7 +1,7 @@
 ghost use Rattle.std.specs.Prelude.{◌≡◌, ℕ, List};
 
 use crate::programs::{FILE, Loaded};
-use anyhow::Result;
+use anyhow::{Context, Result};
 use px_io::{ByteSink, ByteSource, MapFiles};
 use px_lines::number_of;
 use px_pool::{ScriptSpawner, Spawner};
@@ -84,6 +84,24 @@ pub fn check_case<R: Threads + Wait + Sync, S: Spawner>(
     compared(alloc, &alone, &shared)
 }
 
+/// The same, of which as much is said as is no matter of time.
+pub fn report_case<R: Threads + Wait + Sync, S: Spawner>(
+    rt: &R,
+    alloc: Global,
+    spawner: &mut S,
+    file: &str,
+    loaded: &Loaded,
+    workers: u32,
+) -> Result<String> {
+    let alone = checked_alone(rt, alloc, loaded)?;
+    let shared = checked_by(rt, alloc, spawner, file, loaded, workers)?;
+    let status = shared.status;
+    let (_, lost) = shared.line()?.rsplit_once(", ").context("no line")?;
+    let mut said = format!(in alloc; "status {status}, {}", lost.trim())?;
+    put_compared(&mut said, &alone, &shared)?;
+    Ok(said)
+}
+
 /// The status and the report.
 pub fn report_of(alloc: Global, answer: &Answer) -> Result<String> {
     let report = str::from_utf8(answer.report())?;
@@ -95,14 +113,20 @@ fn compared(alloc: Global, alone: &Answer, shared: &Answer) -> Result<String> {
     let line = shared.line()?;
     let status = shared.status;
     let mut said = format!(in alloc; "status {status}, {}", line.trim())?;
-    if alone.status == status && alone.report() == shared.report() {
+    put_compared(&mut said, alone, shared)?;
+    Ok(said)
+}
+
+// How the report differs, and how many links run at the end.
+fn put_compared(said: &mut String, alone: &Answer, shared: &Answer) -> Result<()> {
+    if alone.status == shared.status && alone.report() == shared.report() {
         said.push_str(", as without workers")?;
     } else {
         said.push_str(", another report: ")?;
         said.push_str(str::from_utf8(shared.report())?.trim())?;
     }
     write!(said, ", {} running", shared.running)?;
-    Ok(said)
+    Ok(())
 }
 
 // What a run with these words leaves.

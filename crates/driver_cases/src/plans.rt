@@ -2,6 +2,7 @@ use anyhow::{Context, Result, bail};
 use px_honest::Plan;
 use px_pool::Script;
 use px_test_links::MixedPlan;
+use px_wire::{SHARED, VERSION};
 use std::alloc::Global;
 
 /// How much a script gives in a call at most.
@@ -15,7 +16,7 @@ pub struct Starts {
 }
 
 /// The links that the words say: `honest` is a worker in place, without domains; `dies:` and
-/// a number one that dies after so many bytes; `gives:` and hexadecimal digits a script; `deaf` and `silent` a script whose
+/// a number one that dies after so many bytes; `old` and `old-dies:` are such workers that know version 1 alone; `gives:` and hexadecimal digits a script; `deaf` and `silent` a script whose
 /// first sending or receipt fails; `none` is a start that fails.
 pub fn starts_of(alloc: Global, words: &str) -> Result<Starts> {
     let mut plans = Vec::new(alloc);
@@ -35,8 +36,10 @@ pub fn starts_of(alloc: Global, words: &str) -> Result<Starts> {
 fn plan_of(alloc: Global, word: &str) -> Result<MixedPlan> {
     let (word, said) = word.split_once(':').unwrap_or((word, ""));
     Ok(match word {
-        "honest" => in_place(alloc, None),
-        "dies" => in_place(alloc, Some(said.parse()?)),
+        "honest" => in_place(alloc, SHARED, None),
+        "dies" => in_place(alloc, SHARED, Some(said.parse()?)),
+        "old" => in_place(alloc, VERSION, None),
+        "old-dies" => in_place(alloc, VERSION, Some(said.parse()?)),
         "gives" => {
             let bytes = hex::decode(alloc, said).ok().context("no bytes")?;
             script(bytes, Vec::new(alloc), Vec::new(alloc))
@@ -47,10 +50,11 @@ fn plan_of(alloc: Global, word: &str) -> Result<MixedPlan> {
     })
 }
 
-/// A worker in place, without domains, that dies after so many bytes.
-pub fn in_place(alloc: Global, dies_at: Option<u64>) -> MixedPlan {
+/// A worker in place, without domains, that knows the versions up to one and dies after so many bytes.
+pub fn in_place(alloc: Global, known: u8, dies_at: Option<u64>) -> MixedPlan {
     MixedPlan::InPlace(Plan {
         domains: Vec::new(alloc),
+        known,
         dies_at,
     })
 }

@@ -1,6 +1,8 @@
+ghost use Rattle.std.specs.Prelude.{◌≡◌, ◌⊎◌};
+
 use anyhow::{Context, Result, bail};
 use px_callgraph::Job;
-use px_wire::{Said, decode_full};
+use px_wire::{SHARED, Said, VERSION, decode};
 use std::alloc::Global;
 
 /// The bytes that hexadecimal digits say, two digits a byte.
@@ -51,9 +53,23 @@ impl Asked {
 
     /// The job that is asked for.
     pub fn job(&self) -> Result<Job> {
-        match decode_full(self.alloc, &self.request) {
-            Ok(Said::Request { job }) => Ok(job),
+        let Ok(message) = decode(self.alloc, &self.request) else {
+            bail!("no message");
+        };
+        match message.into_said() {
+            Said::Request { job } => Ok(job),
             _ => bail!("no request"),
+        }
+    }
+
+    /// The version of that request, in which the cases ask.
+    pub fn version(&self) -> u8
+        ensures { (result ≡ 1) ⊎ (result ≡ 2) }
+    {
+        if self.request.get(1).copied() == Some(SHARED) {
+            SHARED
+        } else {
+            VERSION
         }
     }
 

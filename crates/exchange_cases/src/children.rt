@@ -1,3 +1,4 @@
+ghost use Rattle.std.specs.Prelude.{◌≡◌, ◌⊎◌};
 ghost use Rattle.px_pool.specs.Words.{IsInStep};
 
 use crate::asked::Asked;
@@ -26,7 +27,7 @@ pub fn child<R: Wait, S: Spawner>(
         return Ok(format!(in alloc; "not started, {} starts failed", spawner.faults())?);
     };
     new_links_are_in_step();
-    let outcome = exchanged(rt, alloc, &mut link, &job);
+    let outcome = exchanged(rt, alloc, &mut link, &job, asked.version());
     let running = spawner.running();
     spawner.end(rt, link);
     let outcome = outcome?;
@@ -59,7 +60,7 @@ pub fn twice<R: Wait, S: Spawner>(
         bail!("not started");
     };
     new_links_are_in_step();
-    let outcomes = asked_twice(rt, alloc, &mut link, &job);
+    let outcomes = asked_twice(rt, alloc, &mut link, &job, asked.version());
     spawner.end(rt, link);
     let (first, second) = outcomes?;
     let first = said_of_child(alloc, &first, &job)?;
@@ -78,14 +79,16 @@ fn asked_twice<R: Wait, K: Link>(
     alloc: Global,
     link: &mut K,
     job: &Job,
+    version: u8,
 ) -> Result<(Outcome, Option<Outcome>)>
-    requires { IsInStep (K.told link.old) }
+    requires step { IsInStep (K.told link.old) }
+    requires version { (version ≡ 1) ⊎ (version ≡ 2) }
 {
-    let first = exchanged(rt, alloc, link, job)?;
+    let first = exchanged(rt, alloc, link, job, version)?;
     if first.is_err() {
         return Ok((first, None));
     }
-    let second = exchanged(rt, alloc, link, job)?;
+    let second = exchanged(rt, alloc, link, job, version)?;
     Ok((first, Some(second)))
 }
 
@@ -108,9 +111,10 @@ where
     let Ok(mut link) = spawner.start(rt, program, 0) else {
         bail!("not started");
     };
-    let first = exchanged(rt, alloc, &mut link, &job);
+    let version = asked.version();
+    let first = exchanged(rt, alloc, &mut link, &job, version);
     let killed = link.kill();
-    let second = exchanged(rt, alloc, &mut link, &job);
+    let second = exchanged(rt, alloc, &mut link, &job, version);
     spawner.end(rt, link);
     let first = said_of_child(alloc, &first?, &job)?;
     let second = said_of_child(alloc, &second?, &job)?;

@@ -1,4 +1,4 @@
-ghost use Rattle.std.specs.Prelude.{IfOk, OnOk};
+ghost use Rattle.std.specs.Prelude.{◌≡◌, ◌⊎◌, IfOk, OnOk};
 ghost use Rattle.px_pool.specs.Words.{IsInStep};
 
 use anyhow::bail;
@@ -13,17 +13,19 @@ use std::sync::Wait;
 /// What an exchange gave.
 pub type Outcome = Result<Table, Lost>;
 
-/// Asks for a job over a link.
+/// Asks for a job in a version over a link.
 pub fn exchanged<R: Wait, K: Link>(
     rt: &R,
     alloc: Global,
     link: &mut K,
     job: &Job,
+    version: u8,
 ) -> anyhow::Result<Outcome>
-    requires { IsInStep (K.told link.old) }
+    requires step { IsInStep (K.told link.old) }
+    requires version { (version ≡ 1) ⊎ (version ≡ 2) }
     ensures { IfOk result (λ outcome. OnOk outcome (IsInStep (K.told link.new))) }
 {
-    match exchange(rt, alloc, link, job) {
+    match exchange(rt, alloc, link, job, version) {
         Ok(piece) => {
             let (_, checked, drops) = piece.into_parts();
             let mut entries = Items::new(alloc);

@@ -2,7 +2,7 @@
 //! none. What it prints must be its `stdout`.
 //!
 //! A line has a word and what it needs. `request` and `reply` have the bytes of messages, two hexadecimal digits each: the
-//! cases after them ask for the job of that request, and where they answer by a script, it is of that reply. The other words
+//! cases after them ask for the job of that request, in its version, and where they answer by a script, it is of that reply. The other words
 //! are those of `scripts`, `workers`, `spawners` and `children`. With the word `worker` the program serves over its own streams:
 //! so it is itself the child that answers in its cases.
 #![tactic(auto)]
@@ -71,9 +71,9 @@ where
         "beginnings" => scripts::beginnings(rt, alloc, asked)?,
         "sends" => scripts::failing(rt, alloc, asked, Fails::Send)?,
         "receives" => scripts::failing(rt, alloc, asked, Fails::Receive)?,
-        "worker" => workers::worker(rt, alloc, asked)?,
-        "worker-twice" => workers::twice(rt, alloc, asked)?,
-        "worker-dies" => workers::dies(rt, alloc, asked)?,
+        "worker" => workers::worker(rt, alloc, asked, workers::known_by(rest)?)?,
+        "worker-twice" => workers::twice(rt, alloc, asked, workers::known_by(rest)?)?,
+        "worker-dies" => workers::dies(rt, alloc, asked, workers::known_by(rest)?)?,
         "spawner-honest" => spawners::honest(rt, alloc, asked)?,
         "spawner-script" => spawners::script(rt, alloc, asked)?,
         "spawner-mixed" => spawners::mixed(rt, alloc, asked)?,

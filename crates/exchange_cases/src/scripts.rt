@@ -38,7 +38,7 @@ fn followed<R: Wait>(
     let job = asked.job()?;
     let mut link = ScriptLink::new(alloc, script);
     new_links_are_in_step();
-    let outcome = exchanged(rt, alloc, &mut link, &job)?;
+    let outcome = exchanged(rt, alloc, &mut link, &job, asked.version())?;
     Ok((outcome, link))
 }
 

@@ -17,6 +17,7 @@ pub fn honest<R: Wait>(rt: &R, alloc: Global, asked: &Asked) -> Result<String> {
     let mut plans = Vec::new(alloc);
     plans.push(Plan {
         domains: Vec::new(alloc),
+        known: 2,
         dies_at: None,
     })?;
     let mut spawner = HonestSpawner::new(alloc, plans);
@@ -45,6 +46,7 @@ pub fn mixed<R: Wait>(rt: &R, alloc: Global, asked: &Asked) -> Result<String> {
     plans.push(MixedPlan::Script(reply(alloc, asked)?))?;
     plans.push(MixedPlan::InPlace(Plan {
         domains: Vec::new(alloc),
+        known: 2,
         dies_at: None,
     }))?;
     let mut failing = Vec::new(alloc);
@@ -84,7 +86,7 @@ fn gated<R: Wait, S: Spawner>(
     };
     new_links_are_in_step();
     let is_sent = !is_partner_asked || partner.send(rt, asked.request()).is_ok();
-    let outcome = exchanged(rt, alloc, &mut link, &job);
+    let outcome = exchanged(rt, alloc, &mut link, &job, asked.version());
     spawner.end(rt, partner);
     spawner.end(rt, link);
     if !is_sent {

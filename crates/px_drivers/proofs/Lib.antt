@@ -1,2 +1,3 @@
 pub mod DriverLemmas
 pub mod CrewLemmas
+pub mod VersionLemmas

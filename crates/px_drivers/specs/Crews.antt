@@ -1,11 +1,11 @@
 -- The workers of rounds, as plain data, and how their links stand in the numbers of a spawner.
-use Rattle.std.specs.Prelude.{◌≡◌, ◌⊎◌, ℕ, suc, ◌+◌, ◌-◌, ◌*◌, ◌^◌, ◌<◌, ◌≤◌, List, [], ◌∷◌, length, Option, Some, None, ⊤}
+use Rattle.std.specs.Prelude.{◌≡◌, ◌⊎◌, ℕ, suc, ◌+◌, ◌-◌, ◌*◌, ◌^◌, ◌<◌, ◌≤◌, List, [], ◌∷◌, ◌++◌, length, Option, Some, None, ⊤}
 use Rattle.std.specs.List.{AllByRecursion}
 use Rattle.px_io.specs.Faults.{Rose}
 use Rattle.px_pool.specs.Starts.{Numbers, TellsAlike}
 use Rattle.px_drivers.specs.declared.ends.Leaving.{Leaving}
 use Rattle.px_drivers.specs.declared.ends.Leaving.TheVariants.{Start, Losses, NoMemory}
-use Rattle.px_drivers.specs.Drivers.{DriverParts, published}
+use Rattle.px_drivers.specs.Drivers.{DriverParts, published, version_after}
 
 -- the drivers that go on; of the other workers, the receipts, and those that were left; and how many workers there may be, and how
 -- many of them may still join
@@ -55,6 +55,32 @@ for_losses NoMemory = 0
 -- how many workers were left for a cause
 abbrev pub left_so : (Leaving → ℕ) → List (ℕ × Leaving) → ℕ
 left_so counts left = total (λ x. counts x.1) left
+
+-- ---- versions
+
+-- each is asked in version 2
+abbrev pub AreShared : List DriverParts → Type 0
+AreShared drivers = AllByRecursion (λ d. d.version ≡ 2) drivers
+
+-- behind these drivers stands one more, of the worker with this number, which is asked in this version
+abbrev pub Joins : ℕ → ℕ → List DriverParts → List DriverParts → Type 0
+Joins number version before after = (d : DriverParts) × (after ≡ before ++ d ∷ []) × (d.number ≡ number) × (d.version ≡ version)
+
+-- The worker of a driver goes on behind these, asked in the version that comes after this driver; or it doesn't go on.
+abbrev pub MayGoOn : DriverParts → List DriverParts → List DriverParts → Type 0
+MayGoOn d before after = (after ≡ before) ⊎ Joins d.number (version_after d.version d.state) before after
+
+-- that of the first of these, if there is one
+abbrev pub FirstMayGoOn : List DriverParts → List DriverParts → Type 0
+FirstMayGoOn [] after = after ≡ []
+FirstMayGoOn (d ∷ drivers) after = MayGoOn d drivers after
+
+-- Of these drivers some workers go on, in their order, each asked in the version that comes after its driver.
+abbrev pub GoOn : List DriverParts → List DriverParts → Type 0
+GoOn [] after = after ≡ []
+GoOn (d ∷ drivers) after =
+    GoOn drivers after
+    ⊎ ((e : DriverParts) × (rest : List DriverParts) × (after ≡ e ∷ rest) × (e.number ≡ d.number) × (e.version ≡ version_after d.version d.state) × GoOn drivers rest)
 
 -- ---- the spawner
 

@@ -1,16 +1,17 @@
-ghost use Rattle.std.specs.Prelude.{◌≡◌, ◌+◌, ◌∷◌, ◌++◌, ◌<◌, ◌≤◌, [], ℕ, length, IfOk, IfSome, IfNone};
+ghost use Rattle.std.specs.Prelude.{◌≡◌, ◌⊎◌, ◌+◌, ◌∷◌, ◌++◌, ◌<◌, ◌≤◌, [], ℕ, true, false, length, IfOk, IfSome, IfNone};
 ghost use Rattle.px_pool.specs.Starts.{CountsEnded};
-ghost use Rattle.px_drivers.specs.Drivers.{counted, published, IsKept};
-ghost use Rattle.px_drivers.specs.Crews.{Standing, standing, in_all, all_published, IsAccount, IsAccountOf, IsAccountWith};
+ghost use Rattle.px_drivers.specs.Drivers.{counted, published, IsKept, AreDriven};
+ghost use Rattle.px_drivers.specs.Crews.{Standing, standing, in_all, all_published, AreShared, Joins, MayGoOn, FirstMayGoOn, GoOn, IsAccount, IsAccountOf, IsAccountWith};
 ghost use Rattle.px_drivers.specs.Rounds.{IsEnd};
 
-use crate::driver::Past;
+use crate::driver::{Past, next_version};
 use crate::driving::round;
 use crate::{Driver, DriverState, Leaving, Rounds};
 use px_book::{Book, Receipt};
 use px_io::Failed;
 use px_pool::{Link, Spawner};
 use px_terms::{Items, NoMemory};
+use px_wire::SHARED;
 use std::alloc::Global;
 use std::marker::Model;
 use std::sync::ledger::Ledger;
@@ -70,9 +71,10 @@ impl<S: Spawner, L: Ledger> Crew<S, L> {
         })
     }
 
-    /// Starts all workers that may join.
+    /// Starts all workers that may join. Each is asked in version 2.
     pub(crate) fn start_all<R: Wait>(&mut self, rt: &R, spawner: &mut S, program: &str)
         ensures workers { self.new.workers ≡ self.old.workers }
+        ensures shared { AreShared self.old.drivers → AreShared self.new.drivers }
         ensures account { (a : Standing) → IsAccount a (standing (S.told spawner.old) (S.links spawner.old) (S.count spawner.old)) self.old → IsAccount a (standing (S.told spawner.new) (S.links spawner.new) (S.count spawner.new)) self.new }
     {
         let many = self.room;
@@ -81,30 +83,35 @@ impl<S: Spawner, L: Ledger> Crew<S, L> {
                 losses: 0,
                 receipts: None,
             };
-            self.hire(rt, spawner, program, number, past);
+            self.hire(rt, spawner, program, number, SHARED, past);
         }
     }
 
-    // Starts a link for a worker with this past, or leaves the worker. Whether the link was started.
+    // Starts a link for a worker with this past, which is asked in this version, or leaves the worker. Whether the link was
+    // started.
     fn hire<R: Wait>(
         &mut self,
         rt: &R,
         spawner: &mut S,
         program: &str,
         number: u32,
+        version: u8,
         past: Past<L>,
     ) -> bool
         requires room { 0 < self.old.room }
+        requires version { (version ≡ 1) ⊎ (version ≡ 2) }
         requires losses { past.losses < 4 }
         ensures workers { self.new.workers ≡ self.old.workers }
         ensures room { self.new.room + 1 ≡ self.old.room }
         ensures links { length self.new.drivers + S.links spawner.old ≡ length self.old.drivers + S.links spawner.new }
         ensures published { all_published self.new ≡ all_published self.old + counted past.receipts }
+        ensures asked { result ≡ true → Joins number version self.old.drivers self.new.drivers }
+        ensures left { result ≡ false → self.new.drivers ≡ self.old.drivers }
         ensures account { (a : Standing) → IsAccountOf a (standing (S.told spawner.old) (S.links spawner.old) (S.count spawner.old)) self.old.drivers (in_all self.old.receipts + counted past.receipts) self.old.left past.losses → IsAccount a (standing (S.told spawner.new) (S.links spawner.new) (S.count spawner.new)) self.new }
     {
         match spawner.start(rt, program, number) {
             Ok(link) => {
-                self.join(Driver::again(number, link, past));
+                self.join(Driver::again(number, version, link, past));
                 true
             }
             Err(Failed) => {
@@ -165,10 +172,11 @@ impl<S: Spawner, L: Ledger> Crew<S, L> {
         requires links { length self.old.drivers ≤ S.links spawner.old }
         ensures links { length self.new.drivers ≤ S.links spawner.new }
         ensures workers { self.new.workers ≡ self.old.workers }
+        ensures versions { GoOn self.old.drivers self.new.drivers }
         ensures account { (a : Standing) → IsAccount a (standing (S.told spawner.old) (S.links spawner.old) (S.count spawner.old)) self.old → IsAccount a (standing (S.told spawner.new) (S.links spawner.new) (S.count spawner.new)) self.new }
     {
         let mut some = false;
-        for _ in 0..self.drivers.len() {
+        for done in 0..self.drivers.len() {
             some |= self.first_goes_on(rt, spawner, program);
         }
         some
@@ -179,6 +187,7 @@ impl<S: Spawner, L: Ledger> Crew<S, L> {
         requires links { length self.old.drivers ≤ S.links spawner.old }
         ensures links { length self.new.drivers ≤ S.links spawner.new }
         ensures workers { self.new.workers ≡ self.old.workers }
+        ensures versions { FirstMayGoOn self.old.drivers self.new.drivers }
         ensures account { (a : Standing) → IsAccount a (standing (S.told spawner.old) (S.links spawner.old) (S.count spawner.old)) self.old → IsAccount a (standing (S.told spawner.new) (S.links spawner.new) (S.count spawner.new)) self.new }
     {
         match self.first() {
@@ -187,7 +196,8 @@ impl<S: Spawner, L: Ledger> Crew<S, L> {
         }
     }
 
-    // What comes of a driver after a round. Whether its worker was started again.
+    // What comes of a driver after a round. Whether its worker was started again. A worker whose link ended before a byte of a reply
+    // came is asked in version 1 from then on, and any other as before.
     fn go_on<R: Wait>(
         &mut self,
         rt: &R,
@@ -201,9 +211,11 @@ impl<S: Spawner, L: Ledger> Crew<S, L> {
         ensures workers { self.new.workers ≡ self.old.workers }
         ensures links { length self.new.drivers + S.links spawner.old ≡ length self.old.drivers + 1 + S.links spawner.new }
         ensures published { all_published self.new ≡ all_published self.old + published driver }
+        ensures versions { MayGoOn driver self.old.drivers self.new.drivers }
         ensures account { (a : Standing) → IsAccountOf a (standing (S.told spawner.old) (S.links spawner.old) (S.count spawner.old)) (driver ∷ self.old.drivers) (in_all self.old.receipts) self.old.left 0 → IsAccount a (standing (S.told spawner.new) (S.links spawner.new) (S.count spawner.new)) self.new }
     {
         let number = driver.number;
+        let version = next_version(driver.version, driver.state());
         match driver.state() {
             DriverState::Ready => {
                 self.join(driver);
@@ -220,7 +232,7 @@ impl<S: Spawner, L: Ledger> Crew<S, L> {
                     self.leave(number, Leaving::Losses, past);
                     return false;
                 }
-                self.hire(rt, spawner, program, number, past)
+                self.hire(rt, spawner, program, number, version, past)
             }
         }
     }
@@ -281,6 +293,7 @@ impl<S: Spawner, L: Ledger + Send + Sync> Crew<S, L> {
         wake: &Condvar,
     )
         ensures workers { self.new.workers ≡ self.old.workers }
+        ensures driven { AreDriven self.old.drivers self.new.drivers }
         ensures account { (a b : Standing) → IsAccount a b self.old → IsAccount a b self.new }
     {
         round(rt, alloc, book, wake, &mut self.drivers);

@@ -1,12 +1,13 @@
-ghost use Rattle.std.specs.Prelude.{◌≡◌, ◌+◌};
+ghost use Rattle.std.specs.Prelude.{◌≡◌, ◌⊎◌, ◌+◌};
 ghost use Rattle.px_drivers.specs.declared.driver.DriverState.TheVariants as stands;
 ghost use Rattle.px_pool.specs.Talks.{IsFresh};
-ghost use Rattle.px_drivers.specs.Drivers.{counted, published, new_driver, IsKept};
+ghost use Rattle.px_drivers.specs.Drivers.{counted, published, new_driver, version_past, version_after, IsKept};
 
 use px_book::Receipt;
 use px_callgraph::Job;
 use px_pieces::Lost;
 use px_pool::Link;
+use px_wire::VERSION;
 use std::marker::Model;
 use std::sync::ledger::Ledger;
 
@@ -30,12 +31,13 @@ pub(crate) struct Past<L: Ledger> {
     pub(crate) receipts: Option<Receipt<L>>,
 }
 
-/// The driver of a worker: its link, what came of its last exchange, and its receipts.
+/// The driver of a worker: its link, what came of its last exchange, and its receipts. It asks in one version.
 ///
 /// While it isn't lost, its link is in step and no call of the link has failed. Where it is, what passed in the refused
 /// exchange shows the cause. The receipts over its link are at most the whole frames that this gave, where it tells them.
 pub struct Driver<K: Link, L: Ledger> {
     pub(crate) number: u32,
+    pub(crate) version: u8,
     pub(crate) link: K,
     // The link's count of faults when the driver was made.
     first: u64,
@@ -58,6 +60,7 @@ impl<K: Link, L: Ledger> Model for Driver<K, L> {
 
     ghost view = { λ d. record {
       number = d.number;
+      version = d.version;
       told = K.told d.link;
       faults = K.count d.link;
       first = d.first;
@@ -70,6 +73,7 @@ impl<K: Link, L: Ledger> Model for Driver<K, L> {
 
     ghost invariant = { λ d. IsKept (record {
       number = d.number;
+      version = d.version;
       told = K.told d.link;
       faults = K.count d.link;
       first = d.first;
@@ -82,26 +86,30 @@ impl<K: Link, L: Ledger> Model for Driver<K, L> {
 }
 
 impl<K: Link, L: Ledger> Driver<K, L> {
-    /// The driver of the worker with this number over a link that was sent nothing and gave nothing. Takes no memory.
-    pub fn new(number: u32, link: K) -> Driver<K, L>
-        requires { IsFresh (K.told link) }
-        ensures { result ≡ new_driver number (K.told link) (K.count link) 0 0 }
+    /// The driver of the worker with this number over a link that was sent nothing and gave nothing. It asks in this version. Takes
+    /// no memory.
+    pub fn new(number: u32, link: K, version: u8) -> Driver<K, L>
+        requires fresh { IsFresh (K.told link) }
+        requires version { (version ≡ 1) ⊎ (version ≡ 2) }
+        ensures { result ≡ new_driver number version (K.told link) (K.count link) 0 0 }
     {
         let past = Past {
             losses: 0,
             receipts: None,
         };
-        Driver::again(number, link, past)
+        Driver::again(number, version, link, past)
     }
 
     /// The same of a worker with a past.
-    pub(crate) fn again(number: u32, link: K, past: Past<L>) -> Driver<K, L>
-        requires { IsFresh (K.told link) }
-        ensures { result ≡ new_driver number (K.told link) (K.count link) past.losses (counted past.receipts) }
+    pub(crate) fn again(number: u32, version: u8, link: K, past: Past<L>) -> Driver<K, L>
+        requires fresh { IsFresh (K.told link) }
+        requires version { (version ≡ 1) ⊎ (version ≡ 2) }
+        ensures { result ≡ new_driver number version (K.told link) (K.count link) past.losses (counted past.receipts) }
     {
         let first = link.faults();
         Driver {
             number,
+            version,
             link,
             first,
             state: DriverState::Ready,
@@ -141,6 +149,7 @@ impl<K: Link, L: Ledger> Driver<K, L> {
     {
         let Driver {
             number: _,
+            version: _,
             link,
             first: _,
             state: _,
@@ -157,6 +166,35 @@ impl<K: Link, L: Ledger> Driver<K, L> {
             receipts: joined(earlier, receipts),
         };
         (link, past)
+    }
+}
+
+/// In which version a worker is asked over its next link, where the driver of this one stands so.
+pub(crate) fn next_version(version: u8, state: DriverState) -> u8
+    ensures { result ≡ version_after version state }
+{
+    match state {
+        DriverState::Ready | DriverState::NoMemory => version,
+        DriverState::Lost(why) => version_past(version, why),
+    }
+}
+
+// The same, where the link was lost for this cause. One that ended before the first byte of a reply may be that of a worker
+// that knows no other version than 1.
+fn version_past(version: u8, why: Lost) -> u8
+    ensures { result ≡ version_past version why }
+{
+    match why {
+        Lost::Closed(0) => VERSION,
+        Lost::Closed(_)
+        | Lost::Send
+        | Lost::Read
+        | Lost::Frame
+        | Lost::Ticket { .. }
+        | Lost::Kinds
+        | Lost::Refused { .. }
+        | Lost::Large
+        | Lost::NoMemory => version,
     }
 }
 

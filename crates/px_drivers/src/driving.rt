@@ -120,7 +120,7 @@ fn turn<R: Wait, K: Link, L: Ledger>(
     ensures ready { result ≡ true → driver.new.state ≡ stands.Ready }
     ensures later { GoesOn driver.old driver.new }
 {
-    match exchange(rt, alloc, &mut driver.link, &job) {
+    match exchange(rt, alloc, &mut driver.link, &job, driver.version) {
         Ok(piece) => {
             let receipt = publish(rt, book, wake, job.ticket, piece);
             driver.receipts = joined(driver.receipts.take(), receipt);

@@ -16,6 +16,9 @@ use std::thread::Threads;
 /// worker started again, until one has lost four links; where none was started again, the rounds are over, and all
 /// links are ended. The program is what a worker runs where it is a child.
 ///
+/// A worker is asked in version 2. Once a link of it ended before a byte of a reply came, it is asked in version 1 for the rest of the
+/// rounds: so one that knows no other version answers from its second link on. No other loss changes the version.
+///
 /// `NoMemory` comes before a worker is started. It may wait for workers for ever.
 pub fn rounds<R: Threads + Wait + Sync, S: Spawner, L: Ledger + Send + Sync>(
     rt: &R,

@@ -19,8 +19,8 @@ use Rattle.px_honest.specs.HonestLinks.{at_most, IsKept, GoesOn}
 -- ---- the worker
 
 -- with more bytes sent
-begun_more : (kinds sent bytes written : List ℕ) → IsBegun kinds sent written → IsBegun kinds (sent ++ bytes) written
-begun_more kinds sent bytes written p = record {
+begun_more : (known : ℕ) (kinds sent bytes written : List ℕ) → IsBegun known kinds sent written → IsBegun known kinds (sent ++ bytes) written
+begun_more known kinds sent bytes written p = record {
   before = p.before;
   rest = p.rest ++ bytes;
   split = ap (λ l. l ++ bytes) p.split ∙ append_assoc p.before p.rest bytes;
@@ -28,45 +28,45 @@ begun_more kinds sent bytes written p = record {
   answered = p.answered;
 }
 
-on_begun : (kinds sent written : List ℕ) (c : Course) → IsOn kinds sent written c → IsBegun kinds sent written
-on_begun kinds sent written c on = has_begun kinds sent on.before on.held written on.split on.answered
+on_begun : (known : ℕ) (kinds sent written : List ℕ) (c : Course) → IsOn known kinds sent written c → IsBegun known kinds sent written
+on_begun known kinds sent written c on = has_begun known kinds sent on.before on.held written on.split on.answered
 
 -- by bytes that it answers
-pub goes_on : (kinds sent bytes old new : List ℕ) (a b : Course) → OnAfter kinds a b bytes (Some old) (Some new) → IsOpen b.feeder → IsOn kinds sent old a →
-    GoesOn kinds sent bytes old new b false
-goes_on kinds sent bytes old new a b after opened on =
+pub goes_on : (known : ℕ) (kinds sent bytes old new : List ℕ) (a b : Course) → OnAfter known kinds a b bytes (Some old) (Some new) → IsOpen b.feeder → IsOn known kinds sent old a →
+    GoesOn known kinds sent bytes old new b false
+goes_on known kinds sent bytes old new a b after opened on =
     let grown = after sent old on in
-    let there : IsOn kinds (sent ++ bytes) new b = subst (λ l. IsOn kinds (sent ++ bytes) l b) (sym grown.1) grown.2 in
+    let there : IsOn known kinds (sent ++ bytes) new b = subst (λ l. IsOn known kinds (sent ++ bytes) l b) (sym grown.1) grown.2 in
     record {
       more = grown.0;
       grew = grown.1;
-      begun = on_begun kinds (sent ++ bytes) new b there;
+      begun = on_begun known kinds (sent ++ bytes) new b there;
       on = λ e. (there, opened);
     }
 
 -- by bytes at which it stops
-pub stops_at : (kinds sent bytes old new : List ℕ) (a b : Course) (fault : ServeFault) → StopsAfter kinds a bytes (Some old) (Some new) fault → IsOn kinds sent old a →
-    GoesOn kinds sent bytes old new b true
-stops_at kinds sent bytes old new a b fault after on =
+pub stops_at : (known : ℕ) (kinds sent bytes old new : List ℕ) (a b : Course) (fault : ServeFault) → StopsAfter known kinds a bytes (Some old) (Some new) fault → IsOn known kinds sent old a →
+    GoesOn known kinds sent bytes old new b true
+stops_at known kinds sent bytes old new a b fault after on =
     let grown = after sent old on in
     record {
       more = grown.0;
       grew = grown.1;
-      begun = subst (λ l. IsBegun kinds (sent ++ bytes) l) (sym grown.1) (served_begun kinds (sent ++ bytes) [] (old ++ grown.0) (Err fault) (grown.2 []));
+      begun = subst (λ l. IsBegun known kinds (sent ++ bytes) l) (sym grown.1) (served_begun known kinds (sent ++ bytes) [] (old ++ grown.0) (Err fault) (grown.2 []));
       on = λ e. absurd cc;
     }
 
 -- by bytes that it doesn't look at
-pub stops_before : (kinds sent bytes old : List ℕ) (a b : Course) → IsOn kinds sent old a → GoesOn kinds sent bytes old old b true
-stops_before kinds sent bytes old a b on = record {
+pub stops_before : (known : ℕ) (kinds sent bytes old : List ℕ) (a b : Course) → IsOn known kinds sent old a → GoesOn known kinds sent bytes old old b true
+stops_before known kinds sent bytes old a b on = record {
   more = [];
   grew = sym (append-nil old);
-  begun = begun_more kinds sent bytes old (on_begun kinds sent old a on);
+  begun = begun_more known kinds sent bytes old (on_begun known kinds sent old a on);
   on = λ e. absurd cc;
 }
 
-pub kept_new : (kinds : List ℕ) (c : Course) (d : Option ℕ) → IsOn kinds [] [] c → IsOpen c.feeder → IsKept kinds [] [] c false 0 d
-kept_new kinds c d on opened = record { begun = on_begun kinds [] [] c on; on = λ e. (on, opened); within = omega arith }
+pub kept_new : (known : ℕ) (kinds : List ℕ) (c : Course) (d : Option ℕ) → IsOn known kinds [] [] c → IsOpen c.feeder → IsKept known kinds [] [] c false 0 d
+kept_new known kinds c d on opened = record { begun = on_begun known kinds [] [] c on; on = λ e. (on, opened); within = omega arith }
 
 -- ---- how much it gives
 
@@ -114,9 +114,9 @@ unsent_talk t bytes = (
 pub part_of_none : (old new : Talk) (bytes : List ℕ) → new ≡ old → SendsPart (Some old) (Some new) bytes
 part_of_none old new bytes is = subst (λ t. SendsPart (Some old) (Some t) bytes) (sym is) (unsent_talk old bytes)
 
-pub kept_sent : (kinds sent bytes old new : List ℕ) (a b : Course) (before stopped : Bool) (given : ℕ) (d : Option ℕ) → IsKept kinds sent old a before given d →
-    GoesOn kinds sent bytes old new b stopped → IsKept kinds (sent ++ bytes) new b stopped given d
-kept_sent kinds sent bytes old new a b before stopped given d k g = record {
+pub kept_sent : (known : ℕ) (kinds sent bytes old new : List ℕ) (a b : Course) (before stopped : Bool) (given : ℕ) (d : Option ℕ) → IsKept known kinds sent old a before given d →
+    GoesOn known kinds sent bytes old new b stopped → IsKept known kinds (sent ++ bytes) new b stopped given d
+kept_sent known kinds sent bytes old new a b before stopped given d k g = record {
   begun = g.begun;
   on = g.on;
   within =
@@ -124,10 +124,10 @@ kept_sent kinds sent bytes old new a b before stopped given d k g = record {
       let few : length old ≤ length new = omega arith in at_most_more d given (length old) (length new) few k.within;
 }
 
-pub kept_stopped : (kinds sent bytes written : List ℕ) (c : Course) (stopped : Bool) (given : ℕ) (d : Option ℕ) → stopped ≡ true → IsKept kinds sent written c stopped given d →
-    IsKept kinds (sent ++ bytes) written c stopped given d
-kept_stopped kinds sent bytes written c stopped given d is k = record {
-  begun = begun_more kinds sent bytes written k.begun;
+pub kept_stopped : (known : ℕ) (kinds sent bytes written : List ℕ) (c : Course) (stopped : Bool) (given : ℕ) (d : Option ℕ) → stopped ≡ true → IsKept known kinds sent written c stopped given d →
+    IsKept known kinds (sent ++ bytes) written c stopped given d
+kept_stopped known kinds sent bytes written c stopped given d is k = record {
+  begun = begun_more known kinds sent bytes written k.begun;
   on = λ e. absurd cc;
   within = k.within;
 }
@@ -144,19 +144,20 @@ given_talk sent written piece given count ended now is =
     ap (λ (l : List ℕ). record { sent = l; given = take (given + count) written; ended = ended || now }) (sym (append-nil sent))
     ∙ ap (λ (l : List ℕ). record { sent = sent ++ []; given = l; ended = ended || now }) (take-add given count written ∙ ap (λ l. take given written ++ l) (sym is))
 
-pub kept_given : (kinds sent written : List ℕ) (c : Course) (stopped : Bool) (given count : ℕ) (d : Option ℕ) → given + count ≤ at_most d (length written) →
-    IsKept kinds sent written c stopped given d → IsKept kinds sent written c stopped (given + count) d
-kept_given kinds sent written c stopped given count d few k = record { begun = k.begun; on = k.on; within = few }
+pub kept_given : (known : ℕ) (kinds sent written : List ℕ) (c : Course) (stopped : Bool) (given count : ℕ) (d : Option ℕ) → given + count ≤ at_most d (length written) →
+    IsKept known kinds sent written c stopped given d → IsKept known kinds sent written c stopped (given + count) d
+kept_given known kinds sent written c stopped given count d few k = record { begun = k.begun; on = k.on; within = few }
 
 -- the worker's replies are its word, however many of the bytes were given
-pub word_kept : RepliesAreAnalyses → (kinds sent written : List ℕ) (given : ℕ) (ended : Bool) → IsBegun kinds sent written → IsWordKept IsTable (Some (talk_of sent written given ended))
-word_kept law kinds sent written given ended begun = λ n asked answer j t ds (asks, more, are_asked, at_asked) (gave, left, are_given, at_given) is_asked is_reply.
-    (law kinds sent (take given written) (drop given written) asks gave more left n asked answer j t ds
-    (subst (λ l. IsBegun kinds sent l) (sym (take-append-drop given written)) begun) are_asked are_given at_asked at_given is_asked is_reply).table
+pub word_kept : RepliesAreAnalyses → (known : ℕ) (kinds sent written : List ℕ) (given : ℕ) (ended : Bool) → IsBegun known kinds sent written → IsWordKept IsTable (Some (talk_of sent written given ended))
+word_kept law known kinds sent written given ended begun = λ n asked answer v j t ds (asks, more, are_asked, at_asked) (gave, left, are_given, at_given) is_asked is_reply.
+    (law known kinds sent (take given written) (drop given written) asks gave more left n asked answer v j t ds
+    (subst (λ l. IsBegun known kinds sent l) (sym (take-append-drop given written)) begun) are_asked are_given at_asked at_given
+    is_asked is_reply).table
 
 -- what was given is a beginning of what is owed
-pub begun_given : (kinds sent written : List ℕ) (given : ℕ) → IsBegun kinds sent written → IsBegun kinds sent (take given written)
-begun_given kinds sent written given p = record {
+pub begun_given : (known : ℕ) (kinds sent written : List ℕ) (given : ℕ) → IsBegun known kinds sent written → IsBegun known kinds sent (take given written)
+begun_given known kinds sent written given p = record {
   before = p.before;
   rest = p.rest;
   split = p.split;
@@ -164,5 +165,5 @@ begun_given kinds sent written given p = record {
   answered =
       let same : take given written ++ (drop given written ++ p.later) ≡ written ++ p.later =
       sym (append_assoc (take given written) (drop given written) p.later) ∙ ap (λ l. l ++ p.later) (take-append-drop given written) in
-      subst (λ l. AreAnswered kinds p.before l) (sym same) p.answered;
+      subst (λ l. AreAnswered known kinds p.before l) (sym same) p.answered;
 }

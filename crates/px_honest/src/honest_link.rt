@@ -25,6 +25,8 @@ use std::sync::Wait;
 #[derive(Drop)]
 pub struct HonestLink {
     alloc: Global,
+    // The worker knows the versions from 1 to this one.
+    known: u8,
     domains: Vec<Box<dyn Domain>>,
     // Their numbers.
     kinds: Items<u8>,
@@ -46,25 +48,27 @@ impl Model for HonestLink {
 
     ghost Value = { HonestParts };
 
-    ghost view = { λ l. record { kinds = l.kinds; talk = record { sent = l.sent.items; given = take l.given l.written.bytes.items; ended = l.ended }; written = l.written.bytes.items; dies_at = l.dies_at; faults = l.faults } };
+    ghost view = { λ l. record { known = l.known; kinds = l.kinds; talk = record { sent = l.sent.items; given = take l.given l.written.bytes.items; ended = l.ended }; written = l.written.bytes.items; dies_at = l.dies_at; faults = l.faults } };
 
-    ghost invariant = { λ l. IsKept l.kinds l.sent.items l.written.bytes.items l.course l.stopped l.given l.dies_at };
+    ghost invariant = { λ l. IsKept l.known l.kinds l.sent.items l.written.bytes.items l.course l.stopped l.given l.dies_at };
 }
 
 impl HonestLink {
-    /// A link to a worker with these domains, which stand by rising kinds. Over it so many bytes are given at most: after
-    /// them it is dead.
+    /// A link to a worker that knows the versions from 1 to this one, which is 1 or 2, with these domains, which stand by
+    /// rising kinds. Over it so many bytes are given at most: after them it is dead.
     pub fn new(
         alloc: Global,
         domains: Vec<Box<dyn Domain>>,
+        known: u8,
         dies_at: Option<u64>,
     ) -> Result<HonestLink, NoMemory>
         requires { 0 ≤ length domains.items }
-        ensures { IfOk result (λ l. l ≡ new_link (map (λ b. number b) domains.items) dies_at) }
+        ensures { IfOk result (λ l. l ≡ new_link known (map (λ b. number b) domains.items) dies_at) }
     {
         let kinds = kinds_of(alloc, &domains)?;
         Ok(HonestLink {
             alloc,
+            known,
             domains,
             kinds,
             course: Course::new(alloc),
@@ -81,7 +85,7 @@ impl HonestLink {
     /// The bytes that it gave: a beginning of what its worker owes for what it was sent. Takes no memory.
     pub fn given(&self) -> &[u8]
         ensures bytes { result.now ≡ self.now.talk.given }
-        ensures begun { IsBegun self.now.kinds self.now.talk.sent result.now }
+        ensures begun { IsBegun self.now.known self.now.kinds self.now.talk.sent result.now }
     {
         &self.written.bytes[..self.given]
     }
@@ -121,6 +125,7 @@ impl HonestLink {
         }
         self.stopped = hand_on(
             self.alloc,
+            self.known,
             self.kinds.as_slice(),
             &mut self.course,
             bytes,

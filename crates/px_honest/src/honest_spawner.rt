@@ -10,10 +10,12 @@ use std::alloc::Global;
 use std::sync::Wait;
 use std::vec::IntoIter;
 
-/// What one link is given: the domains of its worker, by rising kinds, and how many bytes it gives at most.
+/// What one link is given: the domains of its worker, by rising kinds, up to which version this knows them, and how many bytes
+/// the link gives at most.
 #[derive(Drop)]
 pub struct Plan {
     pub domains: Vec<Box<dyn Domain>>,
+    pub known: u8,
     pub dies_at: Option<u64>,
 }
 
@@ -44,7 +46,7 @@ fn next_link(alloc: Global, plans: &mut IntoIter<Plan, Global>) -> Option<Honest
     ensures { IfSome result (λ l. l.talk ≡ nothing) }
 {
     let plan = plans.next()?;
-    HonestLink::new(alloc, plan.domains, plan.dies_at).ok()
+    HonestLink::new(alloc, plan.domains, plan.known, plan.dies_at).ok()
 }
 
 impl Spawner for HonestSpawner {

@@ -15,11 +15,13 @@ fn may_help(domains: &[Box<dyn Domain>], kinds: &[u8]) -> bool
     are_kinds(domains, kinds) && are_clear(domains)
 }
 
-/// Hands bytes to a worker in place, whose domains have these numbers, and says whether it has stopped.
+/// Hands bytes to a worker in place, which knows the versions from 1 to this one and whose domains have these numbers, and says
+/// whether it has stopped.
 ///
 /// Domains keep their numbers, and hold nothing. A type can't say that of the domains in it, so it is looked at again.
 pub(crate) fn hand_on(
     alloc: Global,
+    known: u8,
     kinds: &[u8],
     course: &mut Course,
     bytes: &[u8],
@@ -27,12 +29,12 @@ pub(crate) fn hand_on(
     domains: &mut Vec<Box<dyn Domain>>,
 ) -> bool
     requires { IsOpen course.old.feeder }
-    ensures { (sent : List ℕ) → IsOn kinds.now sent written.old.bytes.items course.old → GoesOn kinds.now sent bytes.now written.old.bytes.items written.new.bytes.items course.new result }
+    ensures { (sent : List ℕ) → IsOn known kinds.now sent written.old.bytes.items course.old → GoesOn known kinds.now sent bytes.now written.old.bytes.items written.new.bytes.items course.new result }
 {
     if !may_help(domains, kinds) {
         return true;
     }
-    match course.take(alloc, bytes, written, domains) {
+    match course.take(alloc, known, bytes, written, domains) {
         Ok(()) => false,
         Err(_) => true,
     }

@@ -37,17 +37,17 @@ one_job m j k p q = ap (job_in j) (one_message m (request j) (request k) p q)
 
 -- under ticket 0
 module _ (j : JobTree) (e : j.ticket ≡ 0) (x : KeptItem) where
-  pub good : (t : Table) → x.asked ≡ message_bytes (request j) → IsMessage (request j) → GivesTable j x.given t → IsGood j x t
+  pub good : (t : Table) → x.asked ≡ message_bytes (request j) → IsMessage (request j) → GivesTable 1 j x.given t → IsGood j x t
   good t same range gives = record {
     asked = subst (λ k. Spells x.asked (request k)) (sym (same_job j e)) (same, range);
-    given = subst (λ k. GivesTable k x.given t) (sym (same_job j e)) gives;
+    given = subst (λ k. GivesTable 1 k x.given t) (sym (same_job j e)) gives;
   }
 
   pub other_bytes : x.asked ≢ message_bytes (request j) → IsNoGood j x
   other_bytes other t h = other ((subst (λ k. Spells x.asked (request k)) (same_job j e) h.asked).0)
 
-  pub faulty : (why : Lost) → IsShown why → IsFaultIn j x.given why → IsNoGood j x
-  faulty why shown fault t h = table_or_fault j x.given t why shown (subst (λ k. GivesTable k x.given t) (same_job j e) h.given) fault
+  pub faulty : (why : Lost) → IsShown why → IsFaultIn 1 j x.given why → IsNoGood j x
+  faulty why shown fault t h = table_or_fault 1 j x.given t why shown (subst (λ k. GivesTable 1 k x.given t) (same_job j e) h.given) fault
 
   pub out_of_range : ¬ IsMessage (request j) → IsNoGood j x
   out_of_range none t h = none ((subst (λ k. Spells x.asked (request k)) (same_job j e) h.asked).1)

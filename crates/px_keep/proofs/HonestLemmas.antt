@@ -10,7 +10,7 @@ use Rattle.px_symexec.proofs.TicketLemmas.{no_ticket}
 use Rattle.px_explore.specs.declared.results.Analysis.{Analysis}
 use Rattle.px_explore.specs.Own.{IsAnalysis}
 use Rattle.px_wire.specs.Messages.{request, reply, message_bytes, IsMessage}
-use Rattle.px_wire.proofs.MessageRoundTrips.{one_message}
+use Rattle.px_wire.proofs.MessageRoundTrips.{one_message, is_first}
 use Rattle.px_findings.specs.declared.order.Turn.{Turn}
 use Rattle.px_keep.specs.Items.{KeptItem}
 use Rattle.px_keep.specs.Writing.{item, with_room}
@@ -27,7 +27,8 @@ good_own j t job a asks gives own h =
     let jobs : job ≡ unticketed j = cc in
     let (ds, spelled, derived) = h.given in
     let given : reply 0 job.kinds a.table a.derivations ≡ reply 0 j.kinds t ds =
-    one_message (message_bytes (reply 0 job.kinds a.table a.derivations)) (reply 0 job.kinds a.table a.derivations) (reply 0 j.kinds t ds) (refl, gives) spelled in
+    one_message (message_bytes (reply 0 job.kinds a.table a.derivations)) (reply 0 job.kinds a.table a.derivations) (reply 0 j.kinds t ds) (refl, gives)
+    (is_first (message_bytes (reply 0 job.kinds a.table a.derivations)) 1 (reply 0 j.kinds t ds) spelled refl) in
     let tables : a.table ≡ t = cc in
     no_ticket (unticketed j) j.ticket t (subst (IsTable (unticketed j)) tables (subst (λ i. IsTable i a.table) jobs own.table))
 

@@ -15,7 +15,7 @@ unticketed j = record { proc = j.proc; body = j.body; types = j.types; callees =
 -- that, with its kinds, of which each entry derives from it by the derivation beside it.
 pub record IsGood (j : JobTree) (x : KeptItem) (t : Table) : Type 0 where
   pub asked : Spells x.asked (request (unticketed j))
-  pub given : GivesTable (unticketed j) x.given t
+  pub given : GivesTable 1 (unticketed j) x.given t
 
 -- it isn't good
 abbrev pub IsNoGood : JobTree → KeptItem → Type 0

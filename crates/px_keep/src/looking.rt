@@ -15,7 +15,7 @@ use px_chains::Chains;
 use px_pieces::Lost;
 use px_pool::{Answer, answer_in};
 use px_terms::NoMemory;
-use px_wire::{encode_request, is_request_in_range};
+use px_wire::{VERSION, encode_request, is_request_in_range};
 use std::alloc::Global;
 
 /// The items by the numbers of their procedures, so that those of one are found without a look at the others: first items are
@@ -49,7 +49,7 @@ pub(crate) fn first_good(
     if !is_request_in_range(job) {
         return Ok(None);
     }
-    let asked = encode_request(alloc, job)?;
+    let asked = encode_request(alloc, job, VERSION)?;
     let mut end = chains.end_of(job.proc.0);
     while end > 0 {
         if let Some(answer) = good_in(alloc, &items[items.len() - end], job, &asked)? {
@@ -91,7 +91,7 @@ fn good_in(
 
 // Whether memory ran out, and not a message is at fault.
 fn is_memory(why: Lost) -> bool
-    ensures { result ≡ false → (j : JobTree) (m : List ℕ) → IsFaultIn j m why → IsShown why }
+    ensures { result ≡ false → (j : JobTree) (m : List ℕ) → IsFaultIn 1 j m why → IsShown why }
 {
     match why {
         Lost::NoMemory => true,

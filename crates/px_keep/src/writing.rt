@@ -10,7 +10,7 @@ ghost use Rattle.px_keep.specs.Writing.{with_room, IsPut};
 use px_callgraph::Job;
 use px_frames::{FrameFault, frame};
 use px_terms::NoMemory;
-use px_wire::{Said, encode_full, encode_request, is_request_in_range, is_said_in_range};
+use px_wire::{Said, VERSION, encode_full, encode_request, is_request_in_range, is_said_in_range};
 use std::alloc::Global;
 
 /// Writes the eight bytes before all items.
@@ -38,7 +38,7 @@ pub(crate) fn put_item(
     if !is_said_in_range(reply) {
         return Err(NoMemory);
     }
-    let asked = encode_request(alloc, job)?;
+    let asked = encode_request(alloc, job, VERSION)?;
     let given = encode_full(alloc, reply)?;
     put_frames(alloc, &asked, &given, out)
 }

@@ -3,15 +3,14 @@ use Rattle.std.proofs.Common.{◌≡◌, ℕ, ◌+◌, ◌-◌, ◌<◌, ◌≤�
 use Rattle.std.specs.Prelude.{take}
 use Rattle.std.proofs.lemmas.List.{length-append, length-take, take_all}
 use Rattle.px_spelling.specs.declared.fault.WireFault.TheVariants.{NotAMessage}
-use Rattle.px_spelling.specs.Numbers.{u32_bytes}
-use Rattle.px_wire.specs.Messages.{MessageTree, Spells}
+use Rattle.px_wire.specs.Messages.{MessageTree}
+use Rattle.px_wire.specs.Versions.{SpellsIn}
 use Rattle.px_parts.specs.declared.part.Part.{Part}
 use Rattle.px_parts.specs.declared.part.Part.TheVariants as P
 use Rattle.px_parts.specs.declared.part.Taken.{Taken}
-use Rattle.px_parts.specs.declared.place.Place.{Place}
-use Rattle.px_parts.specs.declared.place.Place.TheVariants.{Start, Over}
-use Rattle.px_parts.specs.Parts.{part_bytes, IsHead, parts_of, IsReplying}
-use Rattle.px_parts.specs.Stream.{Comes, head, entry, a_drop, derivation, Streams, stays, goes}
+use Rattle.px_parts.specs.Places.{Place, Start, Over}
+use Rattle.px_parts.specs.Parts.{parts_of, IsReplying}
+use Rattle.px_parts.specs.Stream.{Comes, head, listed_head, too_large, entry, a_drop, derivation, Streams, stays, goes}
 use Rattle.px_parts.specs.Taking.{Waiting, waits, refuses, IsFound, IsTakenOn, IsTaken}
 use Rattle.px_parts.specs.Laws.{IsWhole}
 use Rattle.px_parts.specs.Following.{HasGiven, to_give, PartsFollow}
@@ -59,43 +58,33 @@ held bytes piece left parts w v t g within taken is =
     (record { place = found.0; rest = found.1; is = found.5; streams = goes_quietly bytes piece g.rest found.1 left parts g.place found.0 within g.streams found.2 }, found.4)
 
 ended : (bytes piece : List ℕ) (left : ℕ) (parts : List Part) (w v : Waiting) (t : Taken) → HasGiven bytes left parts w → length piece ≤ left → IsTaken w piece (Ok t) v →
-    t.part ≡ P.End → (left - length piece ≡ 0) × (m : MessageTree) × IsReplying m × Spells (bytes ++ piece) m × (parts_of m ≡ parts)
+    t.part ≡ P.End → (left - length piece ≡ 0) × (number : ℕ) × (m : MessageTree) × IsReplying m × SpellsIn number (bytes ++ piece) m × (parts_of number m ≡ parts)
 ended bytes piece left parts w v t g within taken is =
     let found = subst (λ x. IsFound g.place (g.rest ++ take left piece) (left - length piece) x v) is (on bytes piece left parts w v t g taken).1 in
     let said = message_of (bytes ++ piece) parts (goes_quietly bytes piece g.rest [] left parts g.place Over within g.streams found.0) in
-    (found.1, said.0, said.1, said.2, said.3)
+    (found.1, said.0, said.1, said.2, said.3, said.4)
 
 refused : (bytes piece : List ℕ) (left : ℕ) (parts : List Part) (w v : Waiting) → HasGiven bytes left parts w → length piece ≤ left → IsTaken w piece (Err NotAMessage) v →
-    (more : List ℕ) → length more ≡ left - length piece → (m : MessageTree) → IsReplying m → ¬ Spells ((bytes ++ piece) ++ more) m
-refused bytes piece left parts w v g within taken more many m replying spells =
+    (more : List ℕ) → length more ≡ left - length piece → (number : ℕ) (m : MessageTree) → IsReplying m → ¬ SpellsIn number ((bytes ++ piece) ++ more) m
+refused bytes piece left parts w v g within taken more many number m replying spells =
     let none : IsTakenOn g.place g.rest left piece (Err NotAMessage) v = answers w v g.place g.rest piece left (Err NotAMessage) g.is taken in
     let here : Streams Start (bytes ++ piece) parts g.place (g.rest ++ take left piece) = goes_quietly bytes piece g.rest (g.rest ++ take left piece) left parts g.place g.place within g.streams stays in
-    let e = streams_begin Start g.place (bytes ++ piece) (g.rest ++ take left piece) more parts (parts_of m) here (said_streams m ((bytes ++ piece) ++ more) replying spells) in
+    let e = streams_begin Start g.place (bytes ++ piece) (g.rest ++ take left piece) more parts (parts_of number m) here (said_streams number m ((bytes ++ piece) ++ more) replying spells) in
     none.0 more many e.0 e.2
 
-front : (bytes more : List ℕ) (left : ℕ) (parts : List Part) (w : Waiting) (m : MessageTree) → HasGiven bytes left parts w → IsReplying m → Spells (bytes ++ more) m →
-    (others : List Part) × (parts_of m ≡ parts ++ others)
-front bytes more left parts w m g replying spells =
-    let e = streams_begin Start g.place bytes g.rest more parts (parts_of m) g.streams (said_streams m (bytes ++ more) replying spells) in (e.0, e.1)
+front : (bytes more : List ℕ) (left : ℕ) (parts : List Part) (w : Waiting) (number : ℕ) (m : MessageTree) → HasGiven bytes left parts w → IsReplying m → SpellsIn number (bytes ++ more) m →
+    (others : List Part) × (parts_of number m ≡ parts ++ others)
+front bytes more left parts w number m g replying spells =
+    let e = streams_begin Start g.place bytes g.rest more parts (parts_of number m) g.streams (said_streams number m (bytes ++ more) replying spells) in (e.0, e.1)
 
 -- ---- each part has bytes
 
-word_first : (n : ℕ) (behind : List ℕ) → 0 < length (u32_bytes n ++ behind)
-word_first n behind = omega arith
-
-head_has : (x : Part) → IsHead x → 0 < length (part_bytes x)
-head_has P.Held fits = absurd fits
-head_has (P.Head number ticket kinds) fits = omega arith
-head_has (P.Entry e) fits = absurd fits
-head_has (P.Drop g) fits = absurd fits
-head_has (P.Derivation d) fits = absurd fits
-head_has (P.Large number ticket) fits = omega arith
-head_has P.End fits = absurd fits
-
 has_bytes : (p q : Place) (x : Part) (bytes : List ℕ) → Comes p (Some x) q bytes → 0 < length bytes
-has_bytes _ _ _ bytes (head x q _ fits where_to is) = subst (λ l. 0 < length l) (sym is) (head_has x fits)
-has_bytes _ _ _ bytes (entry n r e _ fits within is) = subst (λ l. 0 < length l) (sym is) (omega arith)
-has_bytes _ _ _ bytes (a_drop n g _ fits within is) = subst (λ l. 0 < length l) (sym is) (omega arith)
+has_bytes _ _ _ bytes (head ticket kinds _ fits is) = subst (λ l. 0 < length l) (sym is) (omega arith)
+has_bytes _ _ _ bytes (listed_head terms ticket kinds _ are fits is) = subst (λ l. 0 < length l) (sym is) (omega arith)
+has_bytes _ _ _ bytes (too_large number ticket _ fits is) = subst (λ l. 0 < length l) (sym is) (omega arith)
+has_bytes _ _ _ bytes (entry n r k after e _ fits within order on is) = subst (λ l. 0 < length l) (sym is) (omega arith)
+has_bytes _ _ _ bytes (a_drop n k after g _ fits within order on is) = subst (λ l. 0 < length l) (sym is) (omega arith)
 has_bytes _ _ _ bytes (derivation n d _ fits is) = subst (λ l. 0 < length l) (sym is) (omega arith)
 
 shorter : (p q : Place) (bytes rest : List ℕ) (parts : List Part) → Streams p bytes parts q rest → length rest ≤ length bytes

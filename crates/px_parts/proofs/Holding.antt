@@ -4,13 +4,13 @@ use Rattle.std.specs.Prelude.{take, drop}
 use Rattle.std.proofs.lemmas.List.{length-append, length-drop, length-take, take-append-drop, drop-take, drop-append-le}
 use Rattle.std.proofs.Math.Seq.{take-append_seam, drop-append_seam}
 use Rattle.px_parts.specs.declared.part.Part.{Part}
-use Rattle.px_parts.specs.declared.place.Place.{Place}
+use Rattle.px_parts.specs.Places.{Place}
 use Rattle.px_parts.specs.declared.skim.Skim.{Skim}
 use Rattle.px_parts.specs.declared.unread.Unread.{Unread}
 use Rattle.px_parts.specs.Stream.{Streams, stays, goes}
 use Rattle.px_parts.specs.Skims.{IsSkim}
 use Rattle.px_parts.specs.Taking.{waits}
-use Rattle.px_parts.specs.Kept.{held_in, waiting_of, IsSame}
+use Rattle.px_parts.specs.Kept.{place_of, place_in, held_in, waiting_of, IsSame}
 use Rattle.px_parts.proofs.Skimming.{skim_more}
 
 many_kept : (start count : ℕ) (xs h t : List ℕ) → start ≤ length xs → drop start xs ≡ h ++ t → length t ≡ count → length xs - count ≡ start + length h
@@ -57,20 +57,26 @@ how_many start xs = length-drop start xs
 
 -- ---- where all is the same but what was passed over
 
+pub place_held : (u v : Unread) → v.next ≡ u.next → v.terms ≡ u.terms → place_in v ≡ place_in u
+place_held u v next terms = ap (λ n. place_of n v.terms) next ∙ ap (λ ts. place_of u.next ts) terms
+
+pub same_place : (u v : Unread) → IsSame u v → place_in v ≡ place_in u
+same_place u v same = place_held u v same.0 same.1
+
 pub same_held : (u v : Unread) → IsSame u v → held_in v ≡ held_in u
-same_held u v (place, items, start, left) = ap (λ n. drop n v.held.items) start ∙ ap (λ l. drop u.start l) items
+same_held u v (next, terms, items, start, left) = ap (λ n. drop n v.held.items) start ∙ ap (λ l. drop u.start l) items
 
 pub same_within : (u v : Unread) → IsSame u v → u.start ≤ length u.held.items → v.start ≤ length v.held.items
-same_within u v (place, items, start, left) within = omega (arith, within, start, ap length items)
+same_within u v (next, terms, items, start, left) within = omega (arith, within, start, ap length items)
 
-pub same_skim : (u v : Unread) → IsSame u v → IsSkim u.place (held_in u) v.skim → IsSkim v.place (held_in v) v.skim
-same_skim u v same skim = subst (λ p. IsSkim p (held_in v) v.skim) (sym same.0) (subst (λ l. IsSkim u.place l v.skim) (sym (same_held u v same)) skim)
+pub same_skim : (u v : Unread) → IsSame u v → IsSkim (place_in u) (held_in u) v.skim → IsSkim (place_in v) (held_in v) v.skim
+same_skim u v same skim = subst (λ p. IsSkim p (held_in v) v.skim) (sym (same_place u v same)) (subst (λ l. IsSkim (place_in u) l v.skim) (sym (same_held u v same)) skim)
 
 -- ---- where the bytes that were put last are taken away
 
-pub given_back : (old h l k : Unread) (bytes : List ℕ) (count : ℕ) → length bytes ≡ count → h.start ≤ length h.held.items → h.place ≡ old.place → h.left ≡ old.left →
-    held_in h ≡ held_in old ++ bytes → IsSame h l → k.held.items ≡ take (length l.held.items - count) l.held.items → k.start ≡ l.start → k.place ≡ l.place → k.left ≡ l.left →
-    (k.start ≤ length k.held.items) × (waiting_of k ≡ waits old.place (held_in old) old.left)
+pub given_back : (old h l k : Unread) (bytes : List ℕ) (count : ℕ) → length bytes ≡ count → h.start ≤ length h.held.items → place_in h ≡ place_in old → h.left ≡ old.left →
+    held_in h ≡ held_in old ++ bytes → IsSame h l → k.held.items ≡ take (length l.held.items - count) l.held.items → k.start ≡ l.start → place_in k ≡ place_in l → k.left ≡ l.left →
+    (k.start ≤ length k.held.items) × (waiting_of k ≡ waits (place_in old) (held_in old) old.left)
 given_back old h l k bytes count many within place left held same items start place_is left_is =
     let all : held_in l ≡ held_in old ++ bytes = same_held h l same ∙ held in
     let within_l : l.start ≤ length l.held.items = same_within h l same within in
@@ -78,5 +84,6 @@ given_back old h l k bytes count many within place left held same items start pl
     let held_is : held_in k ≡ held_in old =
     ap (λ n. drop n k.held.items) start ∙ ap (λ xs. drop l.start xs) items ∙ taken_away l.start count l.held.items (held_in old) bytes within_l all many in (
       omega (arith, room, start, ap length items),
-      ap (λ p. waits p (held_in k) k.left) (place_is ∙ same.0 ∙ place) ∙ ap (λ z. waits old.place z k.left) held_is ∙ ap (λ n. waits old.place (held_in old) n) (left_is ∙ same.3 ∙ left),
+      ap (λ p. waits p (held_in k) k.left) (place_is ∙ same_place h l same ∙ place) ∙ ap (λ z. waits (place_in old) z k.left) held_is
+          ∙ ap (λ n. waits (place_in old) (held_in old) n) (left_is ∙ same.4 ∙ left),
     )

@@ -1,3 +1,4 @@
+pub mod Naming
 pub mod ComesReads
 pub mod Stuck
 pub mod Passing

@@ -1,27 +1,35 @@
--- Bytes that hold parts to the end of a message are that message.
-use Rattle.std.proofs.Common.{◌≡◌, ℕ, suc, ◌-◌, ◌<◌, ◌≤◌, ◌^◌, List, [], ◌∷◌, ◌++◌, length, map, true, refl, sym, ap, subst, ◌∙◌, append_assoc, append-nil, arith}
+-- Bytes that hold parts to the end of a message are that message, in the version that they say.
+use Rattle.std.proofs.Common.{◌≡◌, inl, inr, ⊎_elim, ℕ, suc, ◌-◌, ◌≤◌, List, [], ◌∷◌, ◌++◌, length, map, true, Option, Some, None, refl, sym, ap, subst, ◌∙◌, append_assoc, append-nil, arith}
 use Rattle.std.specs.List.{flat_map, list_all, AllByRecursion}
 use Rattle.std.proofs.lemmas.Bool.{and_from}
 use Rattle.std.proofs.lemmas.List.Concat.{flat_map-cons}
+use Rattle.px_terms.specs.Polynomials.{Polynomial}
 use Rattle.px_entry.specs.declared.entries.Entry.{Entry}
 use Rattle.px_entry.specs.declared.tables.Gap.{Gap}
 use Rattle.px_entry.specs.declared.tables.Table.{Table}
 use Rattle.px_entry.specs.declared.derivations.Derivation.{Derivation}
-use Rattle.px_spelling.specs.Numbers.{u8_bytes, u32_bytes, IsU32, u64_bytes}
+use Rattle.px_spelling.specs.Numbers.{u32_bytes, IsU32, u64_bytes, IsU64}
 use Rattle.px_spelling.specs.Lists.{list_bytes, IsList, any_number}
-use Rattle.px_spelling.specs.InFull.{entry_bytes, IsEntry, gap_bytes, IsGap, table_bytes, IsTable}
-use Rattle.px_spelling.specs.Tables.{most_rows}
+use Rattle.px_spelling.specs.Polynomials.{polynomial_bytes, IsPolynomialInRange, in_full}
+use Rattle.px_spelling.specs.ByPlace.{by_place}
+use Rattle.px_spelling.specs.Mentions.{entry_mentions, gap_mentions, table_mentions}
+use Rattle.px_spelling.specs.Entries.{entry_bytes, IsEntry}
+use Rattle.px_spelling.specs.Tables.{gap_bytes, IsGap, table_bytes, IsTable, most_rows}
 use Rattle.px_spelling.specs.Derivations.{derivation_bytes, IsDerivation}
 use Rattle.px_wire.specs.TableRanges.{entry_within, gap_within, table_within}
-use Rattle.px_wire.specs.Messages.{MessageTree, reply, large, version, any_types, Spells}
+use Rattle.px_wire.specs.Messages.{MessageTree, reply, large, any_types, fields_bytes, IsSaid}
+use Rattle.px_wire.specs.Mentions.{terms_of}
+use Rattle.px_wire.specs.Versions.{bytes_in, SpellsIn}
+use Rattle.px_wire.proofs.MessageRanges.{from_terms}
 use Rattle.px_parts.specs.declared.part.Part.{Part}
 use Rattle.px_parts.specs.declared.part.Part.TheVariants as P
-use Rattle.px_parts.specs.declared.place.Place.{Place}
-use Rattle.px_parts.specs.declared.place.Place.TheVariants.{Start, EntryCount, Entries, DropCount, Drops, DerivationCount, Derivations, Over}
-use Rattle.px_parts.specs.Parts.{part_bytes, IsHead, table_parts, parts_of, IsReplying}
-use Rattle.px_parts.specs.Stream.{after_head, head, entry_count, entry, all_entries, drop_count, a_drop, all_drops, derivation_count, derivation, all_derivations, Streams, stays, goes}
+use Rattle.px_parts.specs.Places.{Naming, full, listed, spelling, AreInOrder, behind as goes_behind, AllNamed, Place, Start, Head, ListedHead, Large, EntryCount, Entries, DropCount, Drops, DerivationCount, Derivations, Over, IsKnown, IsOpened, opening_bytes}
+use Rattle.px_parts.specs.Parts.{table_parts, parts_of, IsReplying}
+use Rattle.px_parts.specs.Stream.{IsSender, sender_bytes, AreTerms, opening, head, listed_head, too_large, entry_count, entry, all_entries, drop_count, a_drop, all_drops, derivation_count, derivation, all_derivations, Streams, stays, goes}
+use Rattle.px_parts.specs.Kept.{spelling_by}
+use Rattle.px_parts.proofs.Naming.{after as naming_after, IsFront, spelled_after, behind_after, front_on, none_first, all_named}
 use Rattle.px_parts.proofs.Stuck.{stuck_over}
-use Rattle.px_parts.proofs.MessageParts.{by_lists}
+use Rattle.px_parts.proofs.MessageParts.{few, by_lists}
 
 -- ---- derivations
 
@@ -56,9 +64,6 @@ record EndIsDerivations (bytes : List ℕ) (parts : List Part) : Type 0 where
   spelled : bytes ≡ list_bytes derivation_bytes ds
   named : parts ≡ map P.Derivation ds
 
-few : (n : ℕ) → n < 2 ^ 32 → n ≤ any_number
-few n small = omega arith
-
 end_of : (bytes : List ℕ) (parts : List Part) → Streams DerivationCount bytes parts Over [] → EndIsDerivations bytes parts
 end_of bytes parts (goes {after = after} {more = more} _ (front, derivation_count n _ fits same, is) next are) =
     let e = derivations_of n after more next in
@@ -70,166 +75,275 @@ end_of bytes parts (goes {after = after} {more = more} _ (front, derivation_coun
       named = are ∙ e.named;
     }
 
--- ---- drops
+-- Where there is this list of terms, or none, and these were mentioned before, a front of the list.
+module _ (o : Option (List Polynomial)) where
+  -- ---- drops
 
-record AreDrops (n : ℕ) (bytes : List ℕ) (parts : List Part) : Type 0 where
-  gs : List Gap
-  many : length gs ≡ n
-  fit : AllByRecursion IsGap gs
-  within : list_all gap_within gs ≡ true
-  rest : List ℕ
-  others : List Part
-  spelled : bytes ≡ flat_map gap_bytes gs ++ rest
-  named : parts ≡ map P.Drop gs ++ others
-  next : EndIsDerivations rest others
+  record AreDrops (ms : List Polynomial) (n : ℕ) (bytes : List ℕ) (parts : List Part) : Type 0 where
+    gs : List Gap
+    many : length gs ≡ n
+    fit : AllByRecursion (IsGap (spelling_by o)) gs
+    within : list_all gap_within gs ≡ true
+    front : IsFront o (ms ++ flat_map gap_mentions gs)
+    named_all : AllNamed (naming_after o (ms ++ flat_map gap_mentions gs))
+    rest : List ℕ
+    others : List Part
+    spelled : bytes ≡ flat_map (gap_bytes (spelling_by o)) gs ++ rest
+    named : parts ≡ map P.Drop gs ++ others
+    next : EndIsDerivations rest others
 
-drops_of : (n : ℕ) (bytes : List ℕ) (parts : List Part) → Streams (Drops n) bytes parts Over [] → AreDrops n bytes parts
-drops_of _ bytes parts (goes {after = after} {more = more} _ (front, a_drop n g _ fits within same, is) next are) =
-    let e = drops_of n after more next in
-    record {
-      gs = g ∷ e.gs;
-      many = ap suc e.many;
-      fit = (fits, e.fit);
-      within = and_from (gap_within g) (list_all gap_within e.gs) within e.within;
-      rest = e.rest;
-      others = e.others;
-      spelled = is ∙ ap (λ l. l ++ after) same ∙ ap (λ l. gap_bytes g ++ l) e.spelled ∙ sym (append_assoc (gap_bytes g) (flat_map gap_bytes e.gs) e.rest)
-          ∙ ap (λ l. l ++ e.rest) (sym (flat_map-cons gap_bytes g e.gs));
-      named = are ∙ ap (λ l. P.Drop g ∷ l) e.named;
-      next = e.next;
-    }
-drops_of _ bytes parts (goes {after = after} {more = more} _ (front, all_drops _ same, is) next are) =
-    record { gs = []; many = refl; fit = tt; within = refl; rest = after; others = more; spelled = is ∙ ap (λ l. l ++ after) same; named = are; next = end_of after more next }
+  drops_of : (ms : List Polynomial) (n : ℕ) (k : Naming) (bytes : List ℕ) (parts : List Part) → k ≡ naming_after o ms → IsFront o ms → Streams (Drops n k) bytes parts Over [] → AreDrops ms n bytes parts
+  drops_of ms _ k bytes parts here front (goes {after = after} {more = more} _ (spelled, a_drop n _ on g _ fits within order behind same, is) next are) =
+      let p = spelling_by o in
+      let own = gap_mentions g in
+      let same_spelling : spelling k ≡ p = ap spelling here ∙ spelled_after o ms in
+      let on_is : on ≡ naming_after o (ms ++ own) = behind ∙ ap (λ z. goes_behind z own) here ∙ behind_after o ms own front in
+      let front_own : IsFront o (ms ++ own) = front_on o ms own front (subst (λ z. AreInOrder z own) here order) in
+      let e = drops_of (ms ++ own) n on after more on_is front_own next in
+      let joined : (ms ++ own) ++ flat_map gap_mentions e.gs ≡ ms ++ flat_map gap_mentions (g ∷ e.gs) = append_assoc ms own (flat_map gap_mentions e.gs) ∙ ap (λ l. ms ++ l) (sym (flat_map-cons gap_mentions g e.gs)) in
+      record {
+        gs = g ∷ e.gs;
+        many = ap suc e.many;
+        fit = (subst (λ q. IsGap q g) same_spelling fits, e.fit);
+        within = and_from (gap_within g) (list_all gap_within e.gs) within e.within;
+        front = subst (λ l. IsFront o l) joined e.front;
+        named_all = subst (λ l. AllNamed (naming_after o l)) joined e.named_all;
+        rest = e.rest;
+        others = e.others;
+        spelled = is ∙ ap (λ l. l ++ after) same ∙ ap (λ q. gap_bytes q g ++ after) same_spelling ∙ ap (λ l. gap_bytes p g ++ l) e.spelled ∙ sym (append_assoc (gap_bytes p g) (flat_map (gap_bytes p) e.gs) e.rest)
+            ∙ ap (λ l. l ++ e.rest) (sym (flat_map-cons (gap_bytes p) g e.gs));
+        named = are ∙ ap (λ l. P.Drop g ∷ l) e.named;
+        next = e.next;
+      }
+  drops_of ms _ k bytes parts here front (goes {after = after} {more = more} _ (spelled, all_drops _ _ all same, is) next are) =
+      record {
+        gs = [];
+        many = refl;
+        fit = tt;
+        within = refl;
+        front = subst (λ l. IsFront o l) (sym (append-nil ms)) front;
+        named_all = subst (λ l. AllNamed (naming_after o l)) (sym (append-nil ms)) (subst AllNamed here all);
+        rest = after;
+        others = more;
+        spelled = is ∙ ap (λ l. l ++ after) same;
+        named = are;
+        next = end_of after more next;
+      }
 
--- ---- entries
+  -- ---- entries
 
-record AreEntries (n r : ℕ) (bytes : List ℕ) (parts : List Part) : Type 0 where
-  es : List Entry
-  many : length es ≡ n
-  fit : AllByRecursion IsEntry es
-  within : list_all (entry_within any_types) es ≡ true
-  rest : List ℕ
-  others : List Part
-  spelled : bytes ≡ flat_map entry_bytes es ++ rest
-  named : parts ≡ map P.Entry es ++ others
-  next : Streams (DropCount r) rest others Over []
+  record AreEntries (ms : List Polynomial) (n r : ℕ) (bytes : List ℕ) (parts : List Part) : Type 0 where
+    es : List Entry
+    many : length es ≡ n
+    fit : AllByRecursion (IsEntry (spelling_by o)) es
+    within : list_all (entry_within any_types) es ≡ true
+    front : IsFront o (ms ++ flat_map entry_mentions es)
+    rest : List ℕ
+    others : List Part
+    spelled : bytes ≡ flat_map (entry_bytes (spelling_by o)) es ++ rest
+    named : parts ≡ map P.Entry es ++ others
+    next : Streams (DropCount r (naming_after o (ms ++ flat_map entry_mentions es))) rest others Over []
 
-entries_of : (n r : ℕ) (bytes : List ℕ) (parts : List Part) → Streams (Entries n r) bytes parts Over [] → AreEntries n r bytes parts
-entries_of _ r bytes parts (goes {after = after} {more = more} _ (front, entry n _ e _ fits within same, is) next are) =
-    let o = entries_of n r after more next in
-    record {
-      es = e ∷ o.es;
-      many = ap suc o.many;
-      fit = (fits, o.fit);
-      within = and_from (entry_within any_types e) (list_all (entry_within any_types) o.es) within o.within;
-      rest = o.rest;
-      others = o.others;
-      spelled = is ∙ ap (λ l. l ++ after) same ∙ ap (λ l. entry_bytes e ++ l) o.spelled ∙ sym (append_assoc (entry_bytes e) (flat_map entry_bytes o.es) o.rest)
-          ∙ ap (λ l. l ++ o.rest) (sym (flat_map-cons entry_bytes e o.es));
-      named = are ∙ ap (λ l. P.Entry e ∷ l) o.named;
-      next = o.next;
-    }
-entries_of _ r bytes parts (goes {after = after} {more = more} _ (front, all_entries _ _ same, is) next are) =
-    record { es = []; many = refl; fit = tt; within = refl; rest = after; others = more; spelled = is ∙ ap (λ l. l ++ after) same; named = are; next = next }
+  entries_of : (ms : List Polynomial) (n r : ℕ) (k : Naming) (bytes : List ℕ) (parts : List Part) → k ≡ naming_after o ms → IsFront o ms → Streams (Entries n r k) bytes parts Over [] → AreEntries ms n r bytes parts
+  entries_of ms _ r k bytes parts here front (goes {after = after} {more = more} _ (spelled, entry n _ _ on e _ fits within order behind same, is) next are) =
+      let p = spelling_by o in
+      let own = entry_mentions e in
+      let same_spelling : spelling k ≡ p = ap spelling here ∙ spelled_after o ms in
+      let on_is : on ≡ naming_after o (ms ++ own) = behind ∙ ap (λ z. goes_behind z own) here ∙ behind_after o ms own front in
+      let front_own : IsFront o (ms ++ own) = front_on o ms own front (subst (λ z. AreInOrder z own) here order) in
+      let f = entries_of (ms ++ own) n r on after more on_is front_own next in
+      let joined : (ms ++ own) ++ flat_map entry_mentions f.es ≡ ms ++ flat_map entry_mentions (e ∷ f.es) = append_assoc ms own (flat_map entry_mentions f.es) ∙ ap (λ l. ms ++ l) (sym (flat_map-cons entry_mentions e f.es)) in
+      record {
+        es = e ∷ f.es;
+        many = ap suc f.many;
+        fit = (subst (λ q. IsEntry q e) same_spelling fits, f.fit);
+        within = and_from (entry_within any_types e) (list_all (entry_within any_types) f.es) within f.within;
+        front = subst (λ l. IsFront o l) joined f.front;
+        rest = f.rest;
+        others = f.others;
+        spelled = is ∙ ap (λ l. l ++ after) same ∙ ap (λ q. entry_bytes q e ++ after) same_spelling ∙ ap (λ l. entry_bytes p e ++ l) f.spelled ∙ sym (append_assoc (entry_bytes p e) (flat_map (entry_bytes p) f.es) f.rest)
+            ∙ ap (λ l. l ++ f.rest) (sym (flat_map-cons (entry_bytes p) e f.es));
+        named = are ∙ ap (λ l. P.Entry e ∷ l) f.named;
+        next = subst (λ l. Streams (DropCount r (naming_after o l)) f.rest f.others Over []) joined f.next;
+      }
+  entries_of ms _ r k bytes parts here front (goes {after = after} {more = more} _ (spelled, all_entries _ _ _ same, is) next are) =
+      record {
+        es = [];
+        many = refl;
+        fit = tt;
+        within = refl;
+        front = subst (λ l. IsFront o l) (sym (append-nil ms)) front;
+        rest = after;
+        others = more;
+        spelled = is ∙ ap (λ l. l ++ after) same;
+        named = are;
+        next = subst (λ z. Streams (DropCount r z) after more Over []) (here ∙ ap (λ l. naming_after o l) (sym (append-nil ms))) next;
+      }
 
--- ---- a table, and the derivations behind it
+  -- ---- a table, and the derivations behind it
 
-counted : (n k : ℕ) (front after rest : List ℕ) → k ≡ n → front ≡ u32_bytes n → after ≡ rest → front ++ after ≡ u32_bytes k ++ rest
-counted n k front after rest many is same = ap (λ l. l ++ after) (is ∙ ap u32_bytes (sym many)) ∙ ap (λ l. u32_bytes k ++ l) same
+  counted : (n k : ℕ) (front after rest : List ℕ) → k ≡ n → front ≡ u32_bytes n → after ≡ rest → front ++ after ≡ u32_bytes k ++ rest
+  counted n k front after rest many is same = ap (λ l. l ++ after) (is ∙ ap u32_bytes (sym many)) ∙ ap (λ l. u32_bytes k ++ l) same
 
-record EndIsDrops (r : ℕ) (bytes : List ℕ) (parts : List Part) : Type 0 where
-  gs : List Gap
-  ds : List Derivation
-  fit : IsList IsGap r gs
-  within : list_all gap_within gs ≡ true
-  derivations_fit : IsList IsDerivation any_number ds
-  spelled : bytes ≡ u32_bytes (length gs) ++ (flat_map gap_bytes gs ++ list_bytes derivation_bytes ds)
-  named : parts ≡ map P.Drop gs ++ map P.Derivation ds
+  record EndIsDrops (ms : List Polynomial) (r : ℕ) (bytes : List ℕ) (parts : List Part) : Type 0 where
+    gs : List Gap
+    ds : List Derivation
+    fit : IsList (IsGap (spelling_by o)) r gs
+    within : list_all gap_within gs ≡ true
+    front : IsFront o (ms ++ flat_map gap_mentions gs)
+    named_all : AllNamed (naming_after o (ms ++ flat_map gap_mentions gs))
+    derivations_fit : IsList IsDerivation any_number ds
+    spelled : bytes ≡ u32_bytes (length gs) ++ (flat_map (gap_bytes (spelling_by o)) gs ++ list_bytes derivation_bytes ds)
+    named : parts ≡ map P.Drop gs ++ map P.Derivation ds
 
-drops_end : (r : ℕ) (bytes : List ℕ) (parts : List Part) → Streams (DropCount r) bytes parts Over [] → EndIsDrops r bytes parts
-drops_end r bytes parts (goes {after = after} {more = more} _ (front, drop_count n _ _ fits small same, is) next are) =
-    let e = drops_of n after more next in
-    record {
-      gs = e.gs;
-      ds = e.next.ds;
-      fit = (subst IsU32 (sym e.many) fits, subst (λ k. k ≤ r) (sym e.many) small, e.fit);
-      within = e.within;
-      derivations_fit = e.next.fit;
-      spelled = is ∙ counted n (length e.gs) front after (flat_map gap_bytes e.gs ++ list_bytes derivation_bytes e.next.ds) e.many same (e.spelled ∙ ap (λ l. flat_map gap_bytes e.gs ++ l) e.next.spelled);
-      named = are ∙ e.named ∙ ap (λ l. map P.Drop e.gs ++ l) e.next.named;
-    }
+  drops_end : (ms : List Polynomial) (r : ℕ) (k : Naming) (bytes : List ℕ) (parts : List Part) → k ≡ naming_after o ms → IsFront o ms → Streams (DropCount r k) bytes parts Over [] → EndIsDrops ms r bytes parts
+  drops_end ms r k bytes parts here front (goes {after = after} {more = more} _ (spelled, drop_count n _ _ _ fits small same, is) next are) =
+      let e = drops_of ms n k after more here front next in
+      let all = flat_map (gap_bytes (spelling_by o)) e.gs in
+      record {
+        gs = e.gs;
+        ds = e.next.ds;
+        fit = (subst IsU32 (sym e.many) fits, subst (λ m. m ≤ r) (sym e.many) small, e.fit);
+        within = e.within;
+        front = e.front;
+        named_all = e.named_all;
+        derivations_fit = e.next.fit;
+        spelled = is ∙ counted n (length e.gs) spelled after (all ++ list_bytes derivation_bytes e.next.ds) e.many same (e.spelled ∙ ap (λ l. all ++ l) e.next.spelled);
+        named = are ∙ e.named ∙ ap (λ l. map P.Drop e.gs ++ l) e.next.named;
+      }
 
-record EndIsTable (bytes : List ℕ) (parts : List Part) : Type 0 where
-  table : Table
-  ds : List Derivation
-  fit : IsTable table
-  within : table_within any_types table ≡ true
-  derivations_fit : IsList IsDerivation any_number ds
-  spelled : bytes ≡ table_bytes table ++ list_bytes derivation_bytes ds
-  named : parts ≡ table_parts table ds
+  record EndIsTable (bytes : List ℕ) (parts : List Part) : Type 0 where
+    table : Table
+    ds : List Derivation
+    fit : IsTable (spelling_by o) table
+    within : table_within any_types table ≡ true
+    front : IsFront o (table_mentions table)
+    named_all : AllNamed (naming_after o (table_mentions table))
+    derivations_fit : IsList IsDerivation any_number ds
+    spelled : bytes ≡ table_bytes (spelling_by o) table ++ list_bytes derivation_bytes ds
+    named : parts ≡ table_parts table ds
 
-table_end : (bytes : List ℕ) (parts : List Part) → Streams EntryCount bytes parts Over [] → EndIsTable bytes parts
-table_end bytes parts (goes {after = after} {more = more} _ (front, entry_count n r _ fits small rows same, is) next are) =
-    let e = entries_of n r after more next in
-    let o = drops_end r e.rest e.others e.next in
-    let tail = list_bytes derivation_bytes o.ds in
-    let left : r ≡ most_rows - length e.es = rows ∙ ap (λ k. most_rows - k) (sym e.many) in
-    let behind : after ≡ flat_map entry_bytes e.es ++ (u32_bytes (length o.gs) ++ (flat_map gap_bytes o.gs ++ tail)) = e.spelled ∙ ap (λ l. flat_map entry_bytes e.es ++ l) o.spelled in
-    record {
-      table = record { entries = e.es; drops = o.gs };
-      ds = o.ds;
-      fit = ((subst IsU32 (sym e.many) fits, subst (λ k. k ≤ most_rows) (sym e.many) small, e.fit), subst (λ k. IsList IsGap k o.gs) left o.fit);
-      within = and_from (list_all (entry_within any_types) e.es) (list_all gap_within o.gs) e.within o.within;
-      derivations_fit = o.derivations_fit;
-      spelled = is ∙ counted n (length e.es) front after (flat_map entry_bytes e.es ++ (u32_bytes (length o.gs) ++ (flat_map gap_bytes o.gs ++ tail))) e.many same behind
-          ∙ sym (by_lists (u32_bytes (length e.es)) (flat_map entry_bytes e.es) (u32_bytes (length o.gs)) (flat_map gap_bytes o.gs) tail);
-      named = are ∙ e.named ∙ ap (λ l. map P.Entry e.es ++ l) o.named;
-    }
+  table_end : (k : Naming) (bytes : List ℕ) (parts : List Part) → k ≡ naming_after o [] → Streams (EntryCount k) bytes parts Over [] → EndIsTable bytes parts
+  table_end k bytes parts here (goes {after = after} {more = more} _ (spelled, entry_count n r _ _ fits small rows same, is) next are) =
+      let p = spelling_by o in
+      let e = entries_of [] n r k after more here (none_first o) next in
+      let first = flat_map entry_mentions e.es in
+      let f = drops_end first r (naming_after o first) e.rest e.others refl e.front e.next in
+      let tail = list_bytes derivation_bytes f.ds in
+      let left : r ≡ most_rows - length e.es = rows ∙ ap (λ m. most_rows - m) (sym e.many) in
+      let behind : List ℕ = u32_bytes (length f.gs) ++ (flat_map (gap_bytes p) f.gs ++ tail) in
+      let all : after ≡ flat_map (entry_bytes p) e.es ++ behind = e.spelled ∙ ap (λ l. flat_map (entry_bytes p) e.es ++ l) f.spelled in
+      record {
+        table = record { entries = e.es; drops = f.gs };
+        ds = f.ds;
+        fit = ((subst IsU32 (sym e.many) fits, subst (λ m. m ≤ most_rows) (sym e.many) small, e.fit), subst (λ m. IsList (IsGap p) m f.gs) left f.fit);
+        within = and_from (list_all (entry_within any_types) e.es) (list_all gap_within f.gs) e.within f.within;
+        front = f.front;
+        named_all = f.named_all;
+        derivations_fit = f.derivations_fit;
+        spelled = is ∙ counted n (length e.es) spelled after (flat_map (entry_bytes p) e.es ++ behind) e.many same all
+            ∙ sym (by_lists (u32_bytes (length e.es)) (flat_map (entry_bytes p) e.es) (u32_bytes (length f.gs)) (flat_map (gap_bytes p) f.gs) tail);
+        named = are ∙ e.named ∙ ap (λ l. map P.Entry e.es ++ l) f.named;
+      }
 
 -- ---- messages
 
 -- bytes spell a message that a worker may say, with these parts
-abbrev pub IsSaid : List ℕ → List Part → Type 0
-IsSaid bytes parts = (m : MessageTree) × IsReplying m × Spells bytes m × (parts_of m ≡ parts)
+abbrev pub IsSpelled : List ℕ → List Part → Type 0
+IsSpelled bytes parts = (number : ℕ) × (m : MessageTree) × IsReplying m × SpellsIn number bytes m × (parts_of number m ≡ parts)
 
-replied : (number ticket : ℕ) (kinds : List ℕ) (bytes after : List ℕ) (parts more : List Part) → number ≡ version → IsHead (P.Head version ticket kinds) →
-    bytes ≡ part_bytes (P.Head number ticket kinds) ++ after → parts ≡ P.Head number ticket kinds ∷ more → EndIsTable after more → IsSaid bytes parts
-replied number ticket kinds bytes after parts more is_version (same, is_ticket, are_kinds, rise) is are e =
-    let tail = table_bytes e.table ++ list_bytes derivation_bytes e.ds in (
+-- after the first bytes
+abbrev IsBehind : ℕ → ℕ → List ℕ → List Part → Type 0
+IsBehind tag number bytes parts = IsSpelled (tag ∷ number ∷ bytes) parts
+
+replied : (ticket : ℕ) (kinds bytes after : List ℕ) (parts more : List Part) → IsSender ticket kinds → bytes ≡ sender_bytes ticket kinds ++ after → parts ≡ P.Head 1 ticket kinds ∷ more →
+    EndIsTable None after more → IsBehind 1 1 bytes parts
+replied ticket kinds bytes after parts more (is_ticket, are_kinds, rise) is are e =
+    let tail = list_bytes derivation_bytes e.ds in (
+      1,
       reply ticket kinds e.table e.ds,
       tt,
       (
-        is ∙ ap (λ v. part_bytes (P.Head v ticket kinds) ++ after) is_version ∙ ap (λ l. part_bytes (P.Head version ticket kinds) ++ l) e.spelled
-            ∙ ap (λ l. 1 ∷ version ∷ l) (sym (append_assoc (u64_bytes ticket ++ list_bytes u8_bytes kinds) (table_bytes e.table) (list_bytes derivation_bytes e.ds))),
+        ap (λ l. 1 ∷ 1 ∷ l) (is ∙ ap (λ l. sender_bytes ticket kinds ++ l) e.spelled ∙ sym (append_assoc (sender_bytes ticket kinds) (table_bytes in_full e.table) tail)),
         ((is_ticket, are_kinds, e.fit, e.derivations_fit), rise, e.within),
+        inl refl,
       ),
-      ap (λ l. P.Head version ticket kinds ∷ l) (sym e.named) ∙ ap (λ v. P.Head v ticket kinds ∷ more) (sym is_version) ∙ sym are,
+      ap (λ l. P.Head 1 ticket kinds ∷ l) (sym e.named) ∙ sym are,
     )
 
-said_large : (number ticket : ℕ) (bytes after : List ℕ) (parts more : List Part) → number ≡ version → IsHead (P.Large version ticket) →
-    bytes ≡ part_bytes (P.Large number ticket) ++ after → parts ≡ P.Large number ticket ∷ more → (more ≡ []) × (after ≡ []) → IsSaid bytes parts
-said_large number ticket bytes after parts more is_version (same, is_ticket) is are (no_more, no_after) = (
-  large ticket,
-  tt,
-  (
-    is ∙ ap (λ l. part_bytes (P.Large number ticket) ++ l) no_after ∙ append-nil (part_bytes (P.Large number ticket)) ∙ ap (λ v. part_bytes (P.Large v ticket)) is_version,
-    is_ticket,
-  ),
-  ap (λ v. P.Large v ticket ∷ []) (sym is_version) ∙ ap (λ l. P.Large number ticket ∷ l) (sym no_more) ∙ sym are,
-)
+-- the terms are those of what was said
+replied_listed : (terms : List Polynomial) (ticket : ℕ) (kinds bytes after : List ℕ) (parts more : List Part) → AreTerms terms → IsSender ticket kinds →
+    bytes ≡ (list_bytes polynomial_bytes terms ++ sender_bytes ticket kinds) ++ after → parts ≡ P.Head 2 ticket kinds ∷ more → EndIsTable (Some terms) after more → IsBehind 1 2 bytes parts
+replied_listed terms ticket kinds bytes after parts more (fit, differ) (is_ticket, are_kinds, rise) is are e =
+    let m = reply ticket kinds e.table e.ds in
+    let sender = sender_bytes ticket kinds in
+    let table = table_bytes (by_place terms) e.table in
+    let tail = list_bytes derivation_bytes e.ds in
+    let own : terms_of m ≡ terms = all_named terms (table_mentions e.table) e.front e.named_all in
+    let said : IsSaid (by_place terms) m = ((is_ticket, are_kinds, e.fit, e.derivations_fit), rise, e.within) in
+    let fields : bytes ≡ list_bytes polynomial_bytes terms ++ fields_bytes (by_place terms) m =
+    is ∙ append_assoc (list_bytes polynomial_bytes terms) sender after ∙ ap (λ l. list_bytes polynomial_bytes terms ++ (sender ++ l)) e.spelled
+    ∙ ap (λ l. list_bytes polynomial_bytes terms ++ l) (sym (append_assoc sender table tail)) in (
+      2,
+      m,
+      tt,
+      (
+        ap (λ l. 1 ∷ 2 ∷ l) (fields ∙ ap (λ ts. list_bytes polynomial_bytes ts ++ fields_bytes (by_place ts) m) (sym own)),
+        from_terms (by_place terms) m said (subst (λ ts. AllByRecursion IsPolynomialInRange ts) (sym own) fit.2),
+        inr (refl, subst (λ ts. IsU32 (length ts)) (sym own) fit.0),
+      ),
+      ap (λ l. P.Head 2 ticket kinds ∷ l) (sym e.named) ∙ sym are,
+    )
 
-after_first : (x : Part) (q : Place) (bytes after : List ℕ) (parts more : List Part) → IsHead x → q ≡ after_head x → bytes ≡ part_bytes x ++ after → parts ≡ x ∷ more →
-    Streams q after more Over [] → IsSaid bytes parts
-after_first P.Held q bytes after parts more fits where_to is are next = absurd fits
-after_first (P.Head number ticket kinds) q bytes after parts more (same, is_ticket, are_kinds, rise) where_to is are next =
-    replied number ticket kinds bytes after parts more same (refl, is_ticket, are_kinds, rise) is are (table_end after more (subst (λ z. Streams z after more Over []) where_to next))
-after_first (P.Entry e) q bytes after parts more fits where_to is are next = absurd fits
-after_first (P.Drop g) q bytes after parts more fits where_to is are next = absurd fits
-after_first (P.Derivation d) q bytes after parts more fits where_to is are next = absurd fits
-after_first (P.Large number ticket) q bytes after parts more (same, fits) where_to is are next =
-    said_large number ticket bytes after parts more same (refl, fits) is are (over_ends after [] more (subst (λ z. Streams z after more Over []) where_to next))
-after_first P.End q bytes after parts more fits where_to is are next = absurd fits
+few_none : IsU32 0
+few_none = omega arith
 
-pub message_of : (bytes : List ℕ) (parts : List Part) → Streams Start bytes parts Over [] → IsSaid bytes parts
-message_of bytes parts (goes {after = after} {more = more} _ (front, head x q _ fits where_to same, is) next are) =
-    after_first x q bytes after parts more fits where_to (is ∙ ap (λ l. l ++ after) same) are next
+said_large : (number ticket : ℕ) (bytes after : List ℕ) (parts more : List Part) → IsKnown number → IsU64 ticket → bytes ≡ u64_bytes ticket ++ after → parts ≡ P.Large number ticket ∷ more →
+    (more ≡ []) × (after ≡ []) → IsBehind 2 number bytes parts
+said_large number ticket bytes after parts more known fits is are (no_more, no_after) =
+    let all : bytes ≡ u64_bytes ticket = is ∙ ap (λ l. u64_bytes ticket ++ l) no_after ∙ append-nil (u64_bytes ticket) in
+    let one : parts ≡ P.Large number ticket ∷ [] = are ∙ ap (λ l. P.Large number ticket ∷ l) no_more in
+    ⊎_elim
+    (λ (first : number ≡ 1). (
+      number,
+      large ticket,
+      tt,
+      (
+        subst (λ v. 2 ∷ v ∷ bytes ≡ bytes_in v (large ticket)) (sym first) (ap (λ l. 2 ∷ 1 ∷ l) all),
+        fits,
+        inl first,
+      ),
+      sym one,
+    ))
+    (λ (second : number ≡ 2). (
+      number,
+      large ticket,
+      tt,
+      (
+        subst (λ v. 2 ∷ v ∷ bytes ≡ bytes_in v (large ticket)) (sym second) (ap (λ l. 2 ∷ 2 ∷ l) all),
+        fits,
+        inr (second, few_none),
+      ),
+      sym one,
+    ))
+    known
+
+after_opening : (q : Place) (bytes : List ℕ) (parts : List Part) → IsOpened q → Streams q bytes parts Over [] → IsSpelled (opening_bytes q ++ bytes) parts
+after_opening Start bytes parts fits next = absurd fits
+after_opening Head bytes parts fits (goes {after = after} {more = more} _ (spelled, head ticket kinds _ sends same, is) next are) =
+    replied ticket kinds bytes after parts more sends (is ∙ ap (λ l. l ++ after) same) are (table_end None full after more refl next)
+after_opening ListedHead bytes parts fits (goes {after = after} {more = more} _ (spelled, listed_head terms ticket kinds _ terms_are sends same, is) next are) =
+    replied_listed terms ticket kinds bytes after parts more terms_are sends (is ∙ ap (λ l. l ++ after) same) are (table_end (Some terms) (listed terms 0) after more refl next)
+after_opening (Large number) bytes parts known (goes {after = after} {more = more} _ (spelled, too_large _ ticket _ fits same, is) next are) =
+    said_large number ticket bytes after parts more known fits (is ∙ ap (λ l. l ++ after) same) are (over_ends after [] more next)
+after_opening (EntryCount k) bytes parts fits next = absurd fits
+after_opening (Entries n r k) bytes parts fits next = absurd fits
+after_opening (DropCount r k) bytes parts fits next = absurd fits
+after_opening (Drops n k) bytes parts fits next = absurd fits
+after_opening DerivationCount bytes parts fits next = absurd fits
+after_opening (Derivations n) bytes parts fits next = absurd fits
+after_opening Over bytes parts fits next = absurd fits
+
+pub message_of : (bytes : List ℕ) (parts : List Part) → Streams Start bytes parts Over [] → IsSpelled bytes parts
+message_of bytes parts (goes {after = after} {more = more} _ (spelled, opening q _ fits same, is) next are) =
+    subst (λ l. IsSpelled l parts) (sym (is ∙ ap (λ l. l ++ after) same)) (subst (λ l. IsSpelled (opening_bytes q ++ after) l) (sym are) (after_opening q after more fits next))

@@ -5,10 +5,11 @@ use Rattle.std.proofs.lemmas.Bool.{lt-ltb, le-ltb, ltb-false, ne_eqb}
 use Rattle.std.proofs.lemmas.Option.{none-some, same_Some}
 use Rattle.std.proofs.lemmas.List.{length-append, length-drop, drop-drop, take_all, take-append-drop, take-append-le, drop-append-le}
 use Rattle.std.proofs.Math.Seq.{drop-append_seam}
+use Rattle.px_parts.specs.declared.form.Spelled.{Spelled}
 use Rattle.px_parts.specs.declared.form.Form.{Form}
-use Rattle.px_parts.specs.declared.form.Form.TheVariants.{Byte, Word, MaybeWord, Value, Content, Polynomial}
+use Rattle.px_parts.specs.declared.form.Form.TheVariants.{Byte, Word, MaybeWord, Value, Content}
 use Rattle.px_parts.specs.declared.form.Due.{Due}
-use Rattle.px_parts.specs.Forms.{size, due, due_only_at, follow_by, follow, next_of, next, Passes, stands, moves}
+use Rattle.px_parts.specs.Forms.{polynomial_in, size, due, due_only_at, follow_by, follow, next_of, next, Passes, stands, moves}
 
 -- ---- one step
 
@@ -225,9 +226,9 @@ only_at_another tag wanted f other = ap (λ b. (if b then due f 1 else due Byte 
 pub value_alone : (tag : ℕ) → tag ≢ 0 → tag ≢ 2 → (follow_by Value tag).count ≡ 0
 value_alone tag a b = ap (λ t. (if t then due Word 1 else due_only_at tag 2 Word).count) (ne_eqb tag 0 a) ∙ only_at_another tag 2 Word b
 
-pub content_alone : (tag : ℕ) → tag ≢ 1 → tag ≢ 2 → tag ≢ 3 → (follow_by Content tag).count ≡ 0
-content_alone tag a b c =
-    ap (λ t. (if t then due Polynomial 1 else (if tag == 2 then due MaybeWord 1 else due_only_at tag 3 Word)).count) (ne_eqb tag 1 a)
+pub content_alone : (s : Spelled) (tag : ℕ) → tag ≢ 1 → tag ≢ 2 → tag ≢ 3 → (follow_by (Content s) tag).count ≡ 0
+content_alone s tag a b c =
+    ap (λ t. (if t then due (polynomial_in s) 1 else (if tag == 2 then due MaybeWord 1 else due_only_at tag 3 Word)).count) (ne_eqb tag 1 a)
     ∙ ap (λ t. (if t then due MaybeWord 1 else due_only_at tag 3 Word).count) (ne_eqb tag 2 b) ∙ only_at_another tag 3 Word c
 
 -- ---- to the end

@@ -5,12 +5,12 @@ use Rattle.std.proofs.lemmas.List.{length-append, length-drop, length-take, drop
 use Rattle.std.proofs.Math.Seq.{take-nil}
 use Rattle.px_spelling.specs.declared.fault.WireFault.{WireFault}
 use Rattle.px_spelling.specs.declared.fault.WireFault.TheVariants.{NotAMessage, NoMemory}
-use Rattle.px_wire.specs.Messages.{MessageTree, Spells}
+use Rattle.px_wire.specs.Messages.{MessageTree}
+use Rattle.px_wire.specs.Versions.{SpellsIn}
 use Rattle.px_parts.specs.declared.part.Part.{Part}
 use Rattle.px_parts.specs.declared.part.Part.TheVariants as P
 use Rattle.px_parts.specs.declared.part.Taken.{Taken}
-use Rattle.px_parts.specs.declared.place.Place.{Place}
-use Rattle.px_parts.specs.declared.place.Place.TheVariants.{Start, Over}
+use Rattle.px_parts.specs.Places.{Place, Start, Over}
 use Rattle.px_parts.specs.Parts.{parts_of, IsReplying}
 use Rattle.px_parts.specs.Stream.{Streams, stays}
 use Rattle.px_parts.specs.Taking.{Waiting, waits, refuses, IsNext, IsFound, IsTakenOn, IsTaken}
@@ -125,16 +125,16 @@ started n pieces parts w takes = follows (waits Start [] n) pieces parts w takes
 short : (n : ℕ) (bytes more : List ℕ) → length (bytes ++ more) ≡ n → take n bytes ≡ bytes
 short n bytes more is = take_all n bytes (omega (arith, length-append bytes more))
 
-pub said_streams : (m : MessageTree) (bytes : List ℕ) → IsReplying m → Spells bytes m → Streams Start bytes (parts_of m) Over []
-said_streams m bytes replying (is, fits) = subst (λ l. Streams Start l (parts_of m) Over []) (sym is) (message_streams m replying fits)
+pub said_streams : (number : ℕ) (m : MessageTree) (bytes : List ℕ) → IsReplying m → SpellsIn number bytes m → Streams Start bytes (parts_of number m) Over []
+said_streams number m bytes replying (is, fits, has) = subst (λ l. Streams Start l (parts_of number m) Over []) (sym is) (message_streams number m replying fits has)
 
-begin : (n : ℕ) (pieces : List (List ℕ)) (more : List ℕ) (parts : List Part) (w : Waiting) (m : MessageTree) → Takes (waits Start [] n) pieces parts w →
-    IsReplying m → Spells (joined pieces ++ more) m → length (joined pieces ++ more) ≡ n → (others : List Part) × (parts_of m ≡ parts ++ others)
-begin n pieces more parts w m takes replying spells many =
+begin : (n : ℕ) (pieces : List (List ℕ)) (more : List ℕ) (parts : List Part) (w : Waiting) (number : ℕ) (m : MessageTree) → Takes (waits Start [] n) pieces parts w →
+    IsReplying m → SpellsIn number (joined pieces ++ more) m → length (joined pieces ++ more) ≡ n → (others : List Part) × (parts_of number m ≡ parts ++ others)
+begin n pieces more parts w number m takes replying spells many =
     let at = started n pieces parts w takes in
     let so_far : Streams Start (joined pieces) parts at.place at.rest = subst (λ l. Streams Start l parts at.place at.rest) (short n (joined pieces) more many) at.streams in
-    let all = said_streams m (joined pieces ++ more) replying spells in
-    let e = streams_begin Start at.place (joined pieces) at.rest more parts (parts_of m) so_far all in
+    let all = said_streams number m (joined pieces ++ more) replying spells in
+    let e = streams_begin Start at.place (joined pieces) at.rest more parts (parts_of number m) so_far all in
     (e.0, e.1)
 
 -- one piece more
@@ -160,7 +160,7 @@ held_exactly n pieces piece parts w v t takes taken is x q rest more =
     no_further Start found.0 q (taken_of n pieces piece) found.1 rest parts x all found.3 more
 
 ended : (n : ℕ) (pieces : List (List ℕ)) (piece : List ℕ) (parts : List Part) (w v : Waiting) (t : Taken) → Takes (waits Start [] n) pieces parts w →
-    IsTaken w piece (Ok t) v → t.part ≡ P.End → (m : MessageTree) × IsReplying m × Spells (taken_of n pieces piece) m × (parts_of m ≡ parts)
+    IsTaken w piece (Ok t) v → t.part ≡ P.End → (number : ℕ) × (m : MessageTree) × IsReplying m × SpellsIn number (taken_of n pieces piece) m × (parts_of number m ≡ parts)
 ended n pieces piece parts w v t takes taken is =
     let left = n - length (joined pieces) in
     let at = started n pieces parts w takes in
@@ -177,14 +177,14 @@ not_taken n pieces piece more many =
     omega (arith, all, length-take n (joined pieces ++ piece), length-append (joined pieces) piece)
 
 refused : (n : ℕ) (pieces : List (List ℕ)) (piece : List ℕ) (parts : List Part) (w v : Waiting) → Takes (waits Start [] n) pieces parts w →
-    IsTaken w piece (Err NotAMessage) v → (more : List ℕ) → length (taken_of n pieces piece ++ more) ≡ n → (m : MessageTree) → IsReplying m → ¬ Spells (taken_of n pieces piece ++ more) m
-refused n pieces piece parts w v takes taken more many m replying spells =
+    IsTaken w piece (Err NotAMessage) v → (more : List ℕ) → length (taken_of n pieces piece ++ more) ≡ n → (number : ℕ) (m : MessageTree) → IsReplying m → ¬ SpellsIn number (taken_of n pieces piece ++ more) m
+refused n pieces piece parts w v takes taken more many number m replying spells =
     let left = n - length (joined pieces) in
     let at = started n pieces parts w takes in
     let on : IsTakenOn at.place at.rest left piece (Err NotAMessage) v = answers w v at.place at.rest piece left (Err NotAMessage) at.is taken in
     let here : Streams Start (taken_of n pieces piece) (parts ++ []) at.place (at.rest ++ take left piece) =
     one_more n pieces piece parts [] w at.place at.place at.rest (at.rest ++ take left piece) at.is at.streams stays in
-    let e = streams_begin Start at.place (taken_of n pieces piece) (at.rest ++ take left piece) more (parts ++ []) (parts_of m) here (said_streams m (taken_of n pieces piece ++ more) replying spells) in
+    let e = streams_begin Start at.place (taken_of n pieces piece) (at.rest ++ take left piece) more (parts ++ []) (parts_of number m) here (said_streams number m (taken_of n pieces piece ++ more) replying spells) in
     on.0 more (not_taken n pieces piece more many) e.0 e.2
 
 -- all bytes were taken
@@ -201,9 +201,9 @@ only_end p bytes left (P.Derivation d) after all found partless = absurd (partle
 only_end p bytes left (P.Large number ticket) after all found partless = absurd (partless tt)
 only_end p bytes left P.End after all found partless = refl
 
-all_were_given : (n : ℕ) (pieces : List (List ℕ)) (piece : List ℕ) (parts : List Part) (w v : Waiting) (answer : Result Taken WireFault) (m : MessageTree) →
-    Takes (waits Start [] n) pieces parts w → IsTaken w piece answer v → length (taken_of n pieces piece) ≡ n → IsReplying m → Spells (taken_of n pieces piece) m → parts_of m ≡ parts → IsEndAtMost answer
-all_were_given n pieces piece parts w v (Ok t) m takes taken all replying spells are =
+all_were_given : (n : ℕ) (pieces : List (List ℕ)) (piece : List ℕ) (parts : List Part) (w v : Waiting) (answer : Result Taken WireFault) (number : ℕ) (m : MessageTree) →
+    Takes (waits Start [] n) pieces parts w → IsTaken w piece answer v → length (taken_of n pieces piece) ≡ n → IsReplying m → SpellsIn number (taken_of n pieces piece) m → parts_of number m ≡ parts → IsEndAtMost answer
+all_were_given n pieces piece parts w v (Ok t) number m takes taken all replying spells are =
     let left = n - length (joined pieces) in
     let at = started n pieces parts w takes in
     let on : IsTakenOn at.place at.rest left piece (Ok t) v = answers w v at.place at.rest piece left (Ok t) at.is taken in
@@ -211,12 +211,12 @@ all_were_given n pieces piece parts w v (Ok t) m takes taken all replying spells
     let partless : IsWhole t.part → ⊥ = λ whole.
     let found = found_whole at.place bytes (left - length piece) t.part v whole on.1 in
     let more = one_more n pieces piece parts (t.part ∷ []) w at.place found.0 at.rest found.1 at.is at.streams found.2 in
-    let e = streams_end Start found.0 (taken_of n pieces piece) found.1 (parts ++ t.part ∷ []) (parts_of m) more (said_streams m (taken_of n pieces piece) replying spells) in
+    let e = streams_end Start found.0 (taken_of n pieces piece) found.1 (parts ++ t.part ∷ []) (parts_of number m) more (said_streams number m (taken_of n pieces piece) replying spells) in
     longer parts e.0 t.part (sym are ∙ e.1) in
     only_end at.place bytes (left - length piece) t.part v (no_more_left n pieces piece all) on.1 partless
-all_were_given n pieces piece parts w v (Err NotAMessage) m takes taken all replying spells are =
-    refused n pieces piece parts w v takes taken [] (ap length (append-nil (taken_of n pieces piece)) ∙ all) m replying (subst (λ l. Spells l m) (sym (append-nil (taken_of n pieces piece))) spells)
-all_were_given n pieces piece parts w v (Err NoMemory) m takes taken all replying spells are = tt
+all_were_given n pieces piece parts w v (Err NotAMessage) number m takes taken all replying spells are =
+    refused n pieces piece parts w v takes taken [] (ap length (append-nil (taken_of n pieces piece)) ∙ all) number m replying (subst (λ l. SpellsIn number l m) (sym (append-nil (taken_of n pieces piece))) spells)
+all_were_given n pieces piece parts w v (Err NoMemory) number m takes taken all replying spells are = tt
 
 never_late : (n : ℕ) (pieces : List (List ℕ)) (piece : List ℕ) (parts : List Part) (w v : Waiting) (t : Taken) → Takes (waits Start [] n) pieces parts w →
     IsTaken w piece (Ok t) v → length (taken_of n pieces piece) ≡ n → t.part ≢ P.Held

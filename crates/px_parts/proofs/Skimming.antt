@@ -4,29 +4,36 @@ use Rattle.std.specs.Prelude.{take, drop}
 use Rattle.std.proofs.lemmas.List.{take_all, length-drop, drop-append-le, length-append, append_cancel_right}
 use Rattle.px_spelling.specs.Numbers.{u8_bytes, u32_bytes, u64_bytes}
 use Rattle.px_spelling.specs.Lists.{list_bytes}
+use Rattle.px_spelling.specs.Polynomials.{polynomial_bytes}
 use Rattle.px_parts.specs.declared.part.Part.{Part}
-use Rattle.px_parts.specs.declared.part.Part.TheVariants as P
-use Rattle.px_parts.specs.declared.place.Place.{Place}
 use Rattle.px_parts.specs.declared.form.Form.TheVariants as F
 use Rattle.px_parts.specs.declared.form.Due.{Due}
 use Rattle.px_parts.specs.declared.skim.Skim.{Skim}
-use Rattle.px_parts.specs.Parts.{part_bytes, IsHead}
-use Rattle.px_parts.specs.Stream.{Comes, head, entry_count, entry, all_entries, drop_count, a_drop, all_drops, derivation_count, derivation, all_derivations, IsStuck}
+use Rattle.px_parts.specs.Places.{Place, Start, Head, ListedHead, Large, EntryCount, Entries, DropCount, Drops, DerivationCount, Derivations, Over, IsOpened, opening_bytes}
+use Rattle.px_parts.specs.Stream.{IsSender, sender_bytes, Comes, opening, head, listed_head, too_large, entry_count, entry, all_entries, drop_count, a_drop, all_drops, derivation_count, derivation, all_derivations, IsStuck}
 use Rattle.px_parts.specs.Forms.{due, next, Passes, stands, dues_at}
 use Rattle.px_parts.specs.Skims.{IsSkim, IsEnded}
 use Rattle.px_parts.proofs.Passing.{passes_more, passes_then, one_end, is_rest}
-use Rattle.px_parts.proofs.Filling.{IsOne, AreDue, one_fills, last_due, front_then, fixed}
-use Rattle.px_parts.proofs.FormsOf.{word_form, kinds_form, entry_due, drop_due, derivation_due}
+use Rattle.px_parts.proofs.Filling.{AreDue, one_fills, two_fill, then_due, last_due}
+use Rattle.px_parts.proofs.FormsOf.{byte_form, word_form, ticket_form, kinds_form, polynomials_form, entry_is_due, drop_is_due, derivation_due}
 
-head_form : (x : Part) → IsHead x → IsOne F.Head (part_bytes x)
-head_form P.Held fits = absurd fits
-head_form (P.Head number ticket kinds) (is, is_ticket, are_kinds, rise) =
-    let all = list_bytes u8_bytes kinds in front_then F.Head F.Kinds 1 (1 ∷ number ∷ u64_bytes ticket) all refl refl (one_fills F.Kinds all (kinds_form kinds are_kinds))
-head_form (P.Entry e) fits = absurd fits
-head_form (P.Drop g) fits = absurd fits
-head_form (P.Derivation d) fits = absurd fits
-head_form (P.Large number ticket) fits = fixed F.Head (2 ∷ number ∷ u64_bytes ticket) refl refl
-head_form P.End fits = absurd fits
+opening_due : (q : Place) → IsOpened q → AreDue (dues_at Start) (opening_bytes q)
+opening_due Start fits = absurd fits
+opening_due Head fits = last_due F.Byte 2 (1 ∷ 1 ∷ []) (two_fill F.Byte (1 ∷ []) (1 ∷ []) (byte_form 1) (byte_form 1))
+opening_due ListedHead fits = last_due F.Byte 2 (1 ∷ 2 ∷ []) (two_fill F.Byte (1 ∷ []) (2 ∷ []) (byte_form 1) (byte_form 2))
+opening_due (Large number) fits = last_due F.Byte 2 (2 ∷ number ∷ []) (two_fill F.Byte (2 ∷ []) (number ∷ []) (byte_form 2) (byte_form number))
+opening_due (EntryCount k) fits = absurd fits
+opening_due (Entries n r k) fits = absurd fits
+opening_due (DropCount r k) fits = absurd fits
+opening_due (Drops n k) fits = absurd fits
+opening_due DerivationCount fits = absurd fits
+opening_due (Derivations n) fits = absurd fits
+opening_due Over fits = absurd fits
+
+sender_due : (ticket : ℕ) (kinds : List ℕ) → IsSender ticket kinds → AreDue (dues_at Head) (sender_bytes ticket kinds)
+sender_due ticket kinds (is_ticket, are_kinds, rise) =
+    let all = list_bytes u8_bytes kinds in
+    then_due F.Ticket 1 (u64_bytes ticket) all _ (one_fills F.Ticket (u64_bytes ticket) (ticket_form ticket)) (last_due F.Kinds 1 all (one_fills F.Kinds all (kinds_form kinds are_kinds)))
 
 same_bytes : (dues : List Due) (a b : List ℕ) → a ≡ b → AreDue dues b → AreDue dues a
 same_bytes dues a b is all = subst (λ l. AreDue dues l) (sym is) all
@@ -38,13 +45,19 @@ nothing_due : AreDue [] []
 nothing_due rest = stands
 
 pub comes_due : (p q : Place) (x : Option Part) (bytes : List ℕ) → Comes p x q bytes → AreDue (dues_at p) bytes
-comes_due _ _ _ bytes (head x q _ fits goes is) = same_bytes _ bytes (part_bytes x) is (last_due F.Head 1 (part_bytes x) (one_fills F.Head (part_bytes x) (head_form x fits)))
-comes_due _ _ _ bytes (entry_count n r _ fits few rows is) = same_bytes _ bytes (u32_bytes n) is (count_due n)
-comes_due _ _ _ bytes (entry n r e _ fits within is) = same_bytes _ bytes _ is (entry_due e fits)
-comes_due _ _ _ bytes (all_entries r _ is) = same_bytes _ bytes [] is nothing_due
-comes_due _ _ _ bytes (drop_count n r _ fits few is) = same_bytes _ bytes (u32_bytes n) is (count_due n)
-comes_due _ _ _ bytes (a_drop n g _ fits within is) = same_bytes _ bytes _ is (drop_due g fits)
-comes_due _ _ _ bytes (all_drops _ is) = same_bytes _ bytes [] is nothing_due
+comes_due _ _ _ bytes (opening q _ fits is) = same_bytes _ bytes (opening_bytes q) is (opening_due q fits)
+comes_due _ _ _ bytes (head ticket kinds _ fits is) = same_bytes _ bytes (sender_bytes ticket kinds) is (sender_due ticket kinds fits)
+comes_due _ _ _ bytes (listed_head terms ticket kinds _ are fits is) =
+    let spelled = list_bytes polynomial_bytes terms in
+    same_bytes _ bytes (spelled ++ sender_bytes ticket kinds) is
+    (then_due F.Polynomials 1 spelled (sender_bytes ticket kinds) _ (one_fills F.Polynomials spelled (polynomials_form terms are.0)) (sender_due ticket kinds fits))
+comes_due _ _ _ bytes (too_large number ticket _ fits is) = same_bytes _ bytes (u64_bytes ticket) is (last_due F.Ticket 1 (u64_bytes ticket) (one_fills F.Ticket (u64_bytes ticket) (ticket_form ticket)))
+comes_due _ _ _ bytes (entry_count n r k _ fits few rows is) = same_bytes _ bytes (u32_bytes n) is (count_due n)
+comes_due _ _ _ bytes (entry n r k after e _ fits within order on is) = same_bytes _ bytes _ is (entry_is_due k e fits)
+comes_due _ _ _ bytes (all_entries r k _ is) = same_bytes _ bytes [] is nothing_due
+comes_due _ _ _ bytes (drop_count n r k _ fits few is) = same_bytes _ bytes (u32_bytes n) is (count_due n)
+comes_due _ _ _ bytes (a_drop n k after g _ fits within order on is) = same_bytes _ bytes _ is (drop_is_due k g fits)
+comes_due _ _ _ bytes (all_drops k _ all is) = same_bytes _ bytes [] is nothing_due
 comes_due _ _ _ bytes (derivation_count n _ fits is) = same_bytes _ bytes (u32_bytes n) is (count_due n)
 comes_due _ _ _ bytes (derivation n d _ fits is) = same_bytes _ bytes _ is (derivation_due d fits)
 comes_due _ _ _ bytes (all_derivations _ is) = same_bytes _ bytes [] is nothing_due

@@ -2,41 +2,63 @@
 use Rattle.std.proofs.Common.{◌≡◌, ℕ, ◌+◌, ◌-◌, ◌<◌, List, [], ◌∷◌, ◌++◌, length, Option, Some, None, refl, sym, ap, subst, ◌∙◌, append_assoc, append-nil, arith}
 use Rattle.std.proofs.lemmas.Option.{same_Some}
 use Rattle.std.proofs.lemmas.List.{length-append}
+use Rattle.px_terms.specs.Polynomials.{Polynomial}
 use Rattle.px_spelling.specs.Reading.{Reader}
-use Rattle.px_spelling.specs.Numbers.{u32_bytes, u32_at}
-use Rattle.px_spelling.specs.InFull.{entry_bytes, gap_bytes}
-use Rattle.px_spelling.specs.Tables.{most_rows}
+use Rattle.px_spelling.specs.Numbers.{u32_bytes, u32_at, u64_bytes, u64_at}
+use Rattle.px_spelling.specs.Lists.{list_bytes}
+use Rattle.px_spelling.specs.Polynomials.{polynomial_bytes}
+use Rattle.px_spelling.specs.Mentions.{entry_mentions, gap_mentions}
+use Rattle.px_spelling.specs.Entries.{entry_bytes}
+use Rattle.px_spelling.specs.Tables.{gap_bytes, most_rows}
 use Rattle.px_spelling.specs.Derivations.{derivation_bytes, derivation_at}
 use Rattle.px_parts.specs.declared.part.Part.{Part}
 use Rattle.px_parts.specs.declared.part.Part.TheVariants as P
-use Rattle.px_parts.specs.declared.place.Place.{Place}
-use Rattle.px_parts.specs.declared.place.Place.TheVariants.{Start, EntryCount, Entries, DropCount, Drops, DerivationCount, Derivations, Over}
-use Rattle.px_parts.specs.Parts.{part_bytes, IsHead}
-use Rattle.px_parts.specs.Reading.{head_at, count_at, own_entry_at, own_drop_at}
-use Rattle.px_parts.specs.Stream.{after_head, Comes, head, entry_count, entry, all_entries, drop_count, a_drop, all_drops, derivation_count, derivation, all_derivations, Arrives, IsStuck, those, Streams, stays, goes}
-use Rattle.px_spelling.proofs.RoundTrip.{ReadsAs, u32_round_trip}
+use Rattle.px_parts.specs.declared.next.Next.{Next}
+use Rattle.px_parts.specs.declared.steps.Given.{Given}
+use Rattle.px_parts.specs.Places.{Naming, listed, spelling, behind, Place, Start, Head, ListedHead, Large, EntryCount, Entries, DropCount, Drops, DerivationCount, Derivations, Over, IsOpened, opening_bytes}
+use Rattle.px_parts.specs.Reading.{opening_at, sender_at, listed_head_at, count_at, own_entry_at, own_drop_at}
+use Rattle.px_parts.specs.Stream.{sender_bytes, Comes, opening, head, listed_head, too_large, entry_count, entry, all_entries, drop_count, a_drop, all_drops, derivation_count, derivation, all_derivations, Arrives, IsStuck, those, Streams, stays, goes}
+use Rattle.px_parts.specs.Kept.{place_of, part_in, terms_behind}
+use Rattle.px_spelling.proofs.RoundTrip.{ReadsAs, u32_round_trip, u64_round_trip}
 use Rattle.px_spelling.proofs.DerivationRoundTrips.{derivation_round_trip}
-use Rattle.px_parts.proofs.ComesReads.{head_reads, count_reads, entry_reads, drop_reads}
+use Rattle.px_parts.proofs.ComesReads.{opening_reads, sender_reads, listed_head_reads, count_reads, entry_reads, drop_reads}
 use Rattle.px_parts.proofs.Stuck.{stuck_over}
 
 -- ---- one step
 
--- how many more counts may come at most
+-- how much more than parts may come at most
 abbrev pub rank : Place → ℕ
-rank Start = 7
-rank EntryCount = 6
-rank (Entries n r) = 5
-rank (DropCount r) = 4
-rank (Drops n) = 3
+rank Start = 10
+rank Head = 9
+rank ListedHead = 8
+rank (Large number) = 7
+rank (EntryCount k) = 6
+rank (Entries n r k) = 5
+rank (DropCount r k) = 4
+rank (Drops n k) = 3
 rank DerivationCount = 2
 rank (Derivations n) = 1
 rank Over = 0
 
+opening_falls : (q : Place) → IsOpened q → rank q < rank Start
+opening_falls Start fits = absurd fits
+opening_falls Head fits = omega arith
+opening_falls ListedHead fits = omega arith
+opening_falls (Large number) fits = omega arith
+opening_falls (EntryCount k) fits = absurd fits
+opening_falls (Entries n r k) fits = absurd fits
+opening_falls (DropCount r k) fits = absurd fits
+opening_falls (Drops n k) fits = absurd fits
+opening_falls DerivationCount fits = absurd fits
+opening_falls (Derivations n) fits = absurd fits
+opening_falls Over fits = absurd fits
+
 pub falls : (p q : Place) (front : List ℕ) → Comes p None q front → rank q < rank p
-falls _ _ _ (entry_count n r _ fits few rows same) = omega arith
-falls _ _ _ (all_entries r _ same) = omega arith
-falls _ _ _ (drop_count n r _ fits few same) = omega arith
-falls _ _ _ (all_drops _ same) = omega arith
+falls _ _ _ (opening q _ fits same) = opening_falls q fits
+falls _ _ _ (entry_count n r k _ fits few rows same) = omega arith
+falls _ _ _ (all_entries r k _ same) = omega arith
+falls _ _ _ (drop_count n r k _ fits few same) = omega arith
+falls _ _ _ (all_drops k _ all same) = omega arith
 falls _ _ _ (derivation_count n _ fits same) = omega arith
 falls _ _ _ (all_derivations _ same) = omega arith
 
@@ -52,27 +74,43 @@ once {A} at a b c d s t x y p q is_a is_b same =
 behind_none : (a b s t : List ℕ) → a ≡ [] → b ≡ [] → a ++ s ≡ b ++ t → s ≡ t
 behind_none a b s t is_a is_b same = ap (λ l. l ++ s) (sym is_a) ∙ same ∙ ap (λ l. l ++ t) is_b
 
-same_entries : (n m k l : ℕ) → n ≡ m → k ≡ most_rows - n → l ≡ most_rows - m → Entries n k ≡ Entries m l
-same_entries n m k l is rows rows' = ap (λ z. Entries z k) is ∙ ap (λ z. Entries m z) (rows ∙ ap (λ z. most_rows - z) is ∙ sym rows')
+same_entries : (n m k l : ℕ) (x : Naming) → n ≡ m → k ≡ most_rows - n → l ≡ most_rows - m → Entries n k x ≡ Entries m l x
+same_entries n m k l x is rows rows' = ap (λ z. Entries z k x) is ∙ ap (λ z. Entries m z x) (rows ∙ ap (λ z. most_rows - z) is ∙ sym rows')
+
+-- the ticket and the kinds that were read
+same_head : (number : ℕ) (x y : ℕ × List ℕ) → x ≡ y → Some (P.Head number x.0 x.1) ≡ Some (P.Head number y.0 y.1)
+same_head number x y same = ap (λ (z : ℕ × List ℕ). Some (P.Head number z.0 z.1)) same
 
 pub comes_once : (p q r : Place) (x y : Option Part) (a b s t : List ℕ) → Comes p x q a → Comes p y r b → a ++ s ≡ b ++ t → (x ≡ y) × (q ≡ r) × (s ≡ t)
-comes_once _ _ _ _ _ a b s t (head x q _ fits on is) (head y r _ fits' on' is') same =
-    let o = once head_at a b (part_bytes x) (part_bytes y) s t x y (head_reads x fits) (head_reads y fits') is is' same in
-    (ap (λ z. Some z) o.0, on ∙ ap after_head o.0 ∙ sym on', o.1)
-comes_once _ _ _ _ _ a b s t (entry_count n k _ fits few rows is) (entry_count m l _ fits' few' rows' is') same =
+comes_once _ _ _ _ _ a b s t (opening q _ fits is) (opening r _ fits' is') same =
+    let o = once opening_at a b (opening_bytes q) (opening_bytes r) s t q r (opening_reads q fits) (opening_reads r fits') is is' same in
+    (refl, o.0, o.1)
+comes_once _ _ _ _ _ a b s t (head n ks _ fits is) (head m ls _ fits' is') same =
+    let o = once sender_at a b (sender_bytes n ks) (sender_bytes m ls) s t (n, ks) (m, ls) (sender_reads n ks fits) (sender_reads m ls fits') is is' same in
+    (same_head 1 (n, ks) (m, ls) o.0, refl, o.1)
+comes_once _ _ _ _ _ a b s t (listed_head us n ks _ are fits is) (listed_head vs m ls _ are' fits' is') same =
+    let first : List Polynomial × (ℕ × List ℕ) = (us, (n, ks)) in
+    let second : List Polynomial × (ℕ × List ℕ) = (vs, (m, ls)) in
+    let o = once listed_head_at a b (list_bytes polynomial_bytes us ++ sender_bytes n ks) (list_bytes polynomial_bytes vs ++ sender_bytes m ls) s t first second
+    (listed_head_reads us n ks are fits) (listed_head_reads vs m ls are' fits') is is' same in
+    (same_head 2 (n, ks) (m, ls) (ap (λ (z : List Polynomial × (ℕ × List ℕ)). z.1) o.0), ap (λ (z : List Polynomial × (ℕ × List ℕ)). EntryCount (listed z.0 0)) o.0, o.1)
+comes_once _ _ _ _ _ a b s t (too_large number n _ fits is) (too_large _ m _ fits' is') same =
+    let o = once u64_at a b (u64_bytes n) (u64_bytes m) s t n m (u64_round_trip n fits) (u64_round_trip m fits') is is' same in
+    (ap (λ z. Some (P.Large number z)) o.0, refl, o.1)
+comes_once _ _ _ _ _ a b s t (entry_count n l k _ fits few rows is) (entry_count m l' _ _ fits' few' rows' is') same =
     let o = once (count_at most_rows) a b (u32_bytes n) (u32_bytes m) s t n m (count_reads most_rows n fits few) (count_reads most_rows m fits' few') is is' same in
-    (refl, same_entries n m k l o.0 rows rows', o.1)
-comes_once _ _ _ _ _ a b s t (entry n k e _ fits within is) (entry _ _ f _ fits' within' is') same =
-    let o = once own_entry_at a b (entry_bytes e) (entry_bytes f) s t e f (entry_reads e fits within) (entry_reads f fits' within') is is' same in
-    (ap (λ z. Some (P.Entry z)) o.0, refl, o.1)
-comes_once _ _ _ _ _ a b s t (all_entries k _ is) (all_entries _ _ is') same = (refl, refl, behind_none a b s t is is' same)
-comes_once _ _ _ _ _ a b s t (drop_count n k _ fits few is) (drop_count m _ _ fits' few' is') same =
-    let o = once (count_at k) a b (u32_bytes n) (u32_bytes m) s t n m (count_reads k n fits few) (count_reads k m fits' few') is is' same in
-    (refl, ap Drops o.0, o.1)
-comes_once _ _ _ _ _ a b s t (a_drop n g _ fits within is) (a_drop _ h _ fits' within' is') same =
-    let o = once own_drop_at a b (gap_bytes g) (gap_bytes h) s t g h (drop_reads g fits within) (drop_reads h fits' within') is is' same in
-    (ap (λ z. Some (P.Drop z)) o.0, refl, o.1)
-comes_once _ _ _ _ _ a b s t (all_drops _ is) (all_drops _ is') same = (refl, refl, behind_none a b s t is is' same)
+    (refl, same_entries n m l l' k o.0 rows rows', o.1)
+comes_once _ _ _ _ _ a b s t (entry n l k _ e _ fits within order on is) (entry _ _ _ _ f _ fits' within' order' on' is') same =
+    let o = once (own_entry_at (spelling k)) a b (entry_bytes (spelling k) e) (entry_bytes (spelling k) f) s t e f (entry_reads k e fits within) (entry_reads k f fits' within') is is' same in
+    (ap (λ z. Some (P.Entry z)) o.0, ap (λ z. Entries n l z) (on ∙ ap (λ z. behind k (entry_mentions z)) o.0 ∙ sym on'), o.1)
+comes_once _ _ _ _ _ a b s t (all_entries l k _ is) (all_entries _ _ _ is') same = (refl, refl, behind_none a b s t is is' same)
+comes_once _ _ _ _ _ a b s t (drop_count n l k _ fits few is) (drop_count m _ _ _ fits' few' is') same =
+    let o = once (count_at l) a b (u32_bytes n) (u32_bytes m) s t n m (count_reads l n fits few) (count_reads l m fits' few') is is' same in
+    (refl, ap (λ z. Drops z k) o.0, o.1)
+comes_once _ _ _ _ _ a b s t (a_drop n k _ g _ fits within order on is) (a_drop _ _ _ h _ fits' within' order' on' is') same =
+    let o = once (own_drop_at (spelling k)) a b (gap_bytes (spelling k) g) (gap_bytes (spelling k) h) s t g h (drop_reads k g fits within) (drop_reads k h fits' within') is is' same in
+    (ap (λ z. Some (P.Drop z)) o.0, ap (λ z. Drops n z) (on ∙ ap (λ z. behind k (gap_mentions z)) o.0 ∙ sym on'), o.1)
+comes_once _ _ _ _ _ a b s t (all_drops k _ all is) (all_drops _ _ all' is') same = (refl, refl, behind_none a b s t is is' same)
 comes_once _ _ _ _ _ a b s t (derivation_count n _ fits is) (derivation_count m _ fits' is') same =
     let o = once u32_at a b (u32_bytes n) (u32_bytes m) s t n m (u32_round_trip n fits) (u32_round_trip m fits') is is' same in
     (refl, ap Derivations o.0, o.1)
@@ -142,9 +180,6 @@ streams_then p q r bytes rest after parts others (goes {q = s} {after = behind} 
 pub then_comes : (p q r : Place) (bytes rest after : List ℕ) (x : Option Part) → Streams p bytes [] q rest → Arrives q rest x r after → Streams p bytes (those x) r after
 then_comes p q r bytes rest after x first arrives = streams_then p q r bytes rest after [] (those x) first (goes x arrives stays (sym (append-nil (those x))))
 
-pub then_part : (p q r : Place) (bytes rest after : List ℕ) (x : Part) → Streams p bytes [] q rest → Arrives q rest (Some x) r after → Streams p bytes (x ∷ []) r after
-then_part p q r bytes rest after x first arrives = then_comes p q r bytes rest after (Some x) first arrives
-
 pub then_count : (p q r : Place) (bytes rest after : List ℕ) → Streams p bytes [] q rest → Arrives q rest None r after → Streams p bytes [] r after
 then_count p q r bytes rest after first arrives = then_comes p q r bytes rest after None first arrives
 
@@ -154,9 +189,11 @@ no_parts_yet p bytes = stays
 pub falls_on : (p q : Place) (bytes rest : List ℕ) → Arrives p bytes None q rest → rank q < rank p
 falls_on p q bytes rest (front, comes, is) = falls p q front comes
 
-pub falls_at : (p q : Place) (bytes rest : List ℕ) (x : Option Part) → x ≡ None → Arrives p bytes x q rest → rank q < rank p
-falls_at p q bytes rest None none arrives = falls_on p q bytes rest arrives
-falls_at p q bytes rest (Some x) none arrives = absurd cc
+-- where no part was given
+pub come_falls : (here then_here : Next) (ts : Option (List Polynomial)) (bytes rest : List ℕ) (x : Option Given) → x ≡ None → Arrives (place_of here ts) bytes (part_in x) (place_of then_here (terms_behind ts x)) rest →
+    rank (place_of then_here ts) < rank (place_of here ts)
+come_falls here then_here ts bytes rest None none arrives = falls_on (place_of here ts) (place_of then_here ts) bytes rest arrives
+come_falls here then_here ts bytes rest (Some x) none arrives = absurd cc
 
 -- the parts of more bytes begin with those of the first
 pub streams_begin : (p q : Place) (bytes rest more : List ℕ) (parts all : List Part) → Streams p bytes parts q rest → Streams p (bytes ++ more) all Over [] →
@@ -184,19 +221,12 @@ IsNone (P.Derivation d) = ⊥
 IsNone (P.Large number ticket) = ⊥
 IsNone P.End = Unit {0}
 
-head_is_part : (x : Part) → IsHead x → IsNone x → ⊥
-head_is_part P.Held fits none = fits
-head_is_part (P.Head number ticket kinds) fits none = none
-head_is_part (P.Entry e) fits none = none
-head_is_part (P.Drop g) fits none = none
-head_is_part (P.Derivation d) fits none = none
-head_is_part (P.Large number ticket) fits none = none
-head_is_part P.End fits none = fits
-
 comes_part : (p q : Place) (x : Part) (front : List ℕ) → Comes p (Some x) q front → IsNone x → ⊥
-comes_part _ _ _ _ (head x q _ fits on is) none = head_is_part x fits none
-comes_part _ _ _ _ (entry n r e _ fits within is) none = none
-comes_part _ _ _ _ (a_drop n g _ fits within is) none = none
+comes_part _ _ _ _ (head ticket kinds _ fits is) none = none
+comes_part _ _ _ _ (listed_head terms ticket kinds _ are fits is) none = none
+comes_part _ _ _ _ (too_large number ticket _ fits is) none = none
+comes_part _ _ _ _ (entry n r k on e _ fits within order is same) none = none
+comes_part _ _ _ _ (a_drop n k on g _ fits within order is same) none = none
 comes_part _ _ _ _ (derivation n d _ fits is) none = none
 
 abbrev first_or : Part → List Part → Part

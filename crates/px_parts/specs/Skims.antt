@@ -1,6 +1,6 @@
 -- How far the bytes of what comes next were passed over, in the code.
 use Rattle.std.specs.Prelude.{◌≡◌, ℕ, ◌≤◌, List, [], length, drop, true}
-use Rattle.px_parts.specs.declared.place.Place.{Place}
+use Rattle.px_parts.specs.Places.{Place}
 use Rattle.px_parts.specs.declared.skim.Skim.{Skim}
 use Rattle.px_parts.specs.Forms.{Passes, dues_at}
 

@@ -5,8 +5,7 @@ use Rattle.px_spelling.specs.declared.fault.WireFault.TheVariants.{NotAMessage, 
 use Rattle.px_parts.specs.declared.part.Part.{Part}
 use Rattle.px_parts.specs.declared.part.Part.TheVariants as P
 use Rattle.px_parts.specs.declared.part.Taken.{Taken}
-use Rattle.px_parts.specs.declared.place.Place.{Place}
-use Rattle.px_parts.specs.declared.place.Place.TheVariants.{Over}
+use Rattle.px_parts.specs.Places.{Place, Over}
 use Rattle.px_parts.specs.Stream.{Streams, IsStuck}
 
 -- What a reader waits for: what comes next, the bytes from there that were taken, and how many bytes of the message weren't. Or it

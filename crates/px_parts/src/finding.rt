@@ -1,33 +1,36 @@
 ghost use Rattle.std.specs.Prelude.{◌≡◌, None, IfOk, IsErrOf};
 ghost use Rattle.px_spelling.specs.declared.fault.WireFault.TheVariants as fault;
 ghost use Rattle.px_parts.specs.Stream.{Streams, those, IsStuck};
+ghost use Rattle.px_parts.specs.Kept.{place_of, part_in, terms_behind};
 
-use crate::steps::step;
-use crate::{Part, Place};
-use px_spelling::WireFault;
+use crate::next::Next;
+use crate::steps::{Given, step};
+use px_spelling::{TermList, WireFault};
 use std::alloc::Global;
 
-/// The next part, where bytes hold it whole, and where the message goes on. Else where nothing more comes in them.
-#[tactic(auto, using(crate::proofs::Streaming::then_part, crate::proofs::Streaming::then_count, crate::proofs::Streaming::no_parts_yet))]
-pub(crate) fn find(
+/// The next part, where bytes hold it whole, and where the message goes on. Else where nothing more comes in them. These are the terms
+/// of the message, if it has a list of them.
+#[tactic(auto, using(crate::proofs::Streaming::then_comes, crate::proofs::Streaming::then_count, crate::proofs::Streaming::no_parts_yet))]
+pub(crate) fn find<'a>(
     alloc: Global,
-    place: Place,
-    bytes: &[u8],
-) -> Result<(Option<Part>, Place, &[u8]), WireFault>
-    ensures holds { IfOk result (λ x. Streams place bytes.now (those x.0) x.1 x.2.now) }
-    ensures stuck { IfOk result (λ x. x.0 ≡ None → IsStuck x.1 x.2.now) }
+    next: Next,
+    terms: &Option<TermList>,
+    bytes: &'a [u8],
+) -> Result<(Option<Given>, Next, &'a [u8]), WireFault>
+    ensures holds { IfOk result (λ x. Streams (place_of next terms.now) bytes.now (those (part_in x.0)) (place_of x.1 (terms_behind terms.now x.0)) x.2.now) }
+    ensures stuck { IfOk result (λ x. x.0 ≡ None → IsStuck (place_of x.1 terms.now) x.2.now) }
     ensures memory { ¬ IsErrOf result fault.NotAMessage }
 {
-    let mut here = place;
+    let mut here = next;
     let mut rest = bytes;
     loop {
-        match step(alloc, here, rest) {
+        match step(alloc, here, terms, rest) {
             Ok(come) => {
-                let (part, next, after) = come;
-                if let Some(part) = part {
-                    return Ok((Some(part), next, after));
+                let (given, then, after) = come;
+                if let Some(given) = given {
+                    return Ok((Some(given), then, after));
                 }
-                here = next;
+                here = then;
                 rest = after;
             }
             Err(WireFault::NotAMessage) => return Ok((None, here, rest)),

@@ -1,12 +1,20 @@
 ghost use Rattle.std.specs.Prelude.{◌≡◌, ◌<◌, ℕ, List, true};
 ghost use Rattle.px_parts.specs.declared.form.Form.TheVariants as at;
-ghost use Rattle.px_parts.specs.Forms.{size, due, due_only_at, tag_in, count_in, follow_by, follow};
+ghost use Rattle.px_parts.specs.Forms.{polynomial_in, size, due, due_only_at, tag_in, count_in, follow_by, follow};
+
+/// How polynomials are spelled: each in full, or by its place in a list.
+#[derive(Clone, Copy)]
+pub(crate) enum Spelled {
+    InFull,
+    ByPlace,
+}
 
 /// What stands in a part, as far as one must know to find where it ends.
 #[derive(Clone, Copy)]
 pub(crate) enum Form {
     Byte,
     Word,
+    Ticket,
     Site,
     /// An error and its site.
     Failure,
@@ -17,30 +25,31 @@ pub(crate) enum Form {
     Words,
     Marks,
     Variables,
-    Conjuncts,
-    Atoms,
+    Conjuncts(Spelled),
+    Atoms(Spelled),
     Values,
     Terms,
-    Contents,
+    Polynomials,
+    Contents(Spelled),
     Steps,
     // What they hold, and what stands alone.
-    Head,
     Mark,
     Exit,
-    Answer,
+    Answer(Spelled),
     Variable,
     /// A byte, and a word where it is 1.
     MaybeWord,
     Value,
-    Content,
+    Content(Spelled),
+    /// In full.
     Polynomial,
     Term,
-    Conjunct,
+    Conjunct(Spelled),
     /// A variable, and the two polynomials of which it is the quotient.
-    Quotient,
-    State,
-    Atom,
-    Cause,
+    Quotient(Spelled),
+    State(Spelled),
+    Atom(Spelled),
+    Cause(Spelled),
     Step,
 }
 
@@ -49,6 +58,16 @@ pub(crate) enum Form {
 pub(crate) struct Due {
     pub(crate) form: Form,
     pub(crate) count: u32,
+}
+
+/// The form of a polynomial that is spelled so.
+pub(crate) fn polynomial_in(spelled: Spelled) -> Form
+    ensures { result ≡ polynomial_in spelled }
+{
+    match spelled {
+        Spelled::InFull => Form::Polynomial,
+        Spelled::ByPlace => Form::Word,
+    }
 }
 
 /// How many bytes stand at the front of a form, from which one knows what follows them.
@@ -60,19 +79,18 @@ pub(crate) fn size_of(form: Form) -> usize
         Form::Site => 12,
         Form::Failure => 13,
         Form::Call => 16,
-        Form::Head => 10,
-        Form::Atom => 8,
+        Form::Ticket | Form::Atom(_) => 8,
         Form::Byte
         | Form::Mark
         | Form::Exit
-        | Form::Answer
+        | Form::Answer(_)
         | Form::Variable
         | Form::MaybeWord
         | Form::Value
-        | Form::Content
-        | Form::Conjunct
-        | Form::State
-        | Form::Cause
+        | Form::Content(_)
+        | Form::Conjunct(_)
+        | Form::State(_)
+        | Form::Cause(_)
         | Form::Step => 1,
         _ => 4,
     }
@@ -83,7 +101,7 @@ pub(crate) fn stands_alone(form: Form) -> bool
     ensures { result ≡ true → (front : List ℕ) → (follow form front).count ≡ 0 }
 {
     match form {
-        Form::Byte | Form::Word | Form::Site | Form::Failure | Form::Call => true,
+        Form::Byte | Form::Word | Form::Ticket | Form::Site | Form::Failure | Form::Call => true,
         _ => false,
     }
 }
@@ -93,22 +111,24 @@ pub(crate) fn due_after(form: Form, front: &[u8]) -> Due
     ensures { result ≡ follow form front.now }
 {
     match form {
-        Form::Byte | Form::Word | Form::Site | Form::Failure | Form::Call => nothing(),
+        Form::Byte | Form::Word | Form::Ticket | Form::Site | Form::Failure | Form::Call =>
+            nothing(),
         Form::Kinds => many(Form::Byte, front),
         Form::Words => many(Form::Word, front),
         Form::Marks => many(Form::Mark, front),
         Form::Variables => many(Form::Variable, front),
-        Form::Conjuncts => many(Form::Conjunct, front),
-        Form::Atoms => many(Form::Atom, front),
+        Form::Conjuncts(spelled) => many(Form::Conjunct(spelled), front),
+        Form::Atoms(spelled) => many(Form::Atom(spelled), front),
         Form::Values => many(Form::Value, front),
         Form::Terms => many(Form::Term, front),
-        Form::Contents => many(Form::Content, front),
+        Form::Polynomials => many(Form::Polynomial, front),
+        Form::Contents(spelled) => many(Form::Content(spelled), front),
         Form::Steps => many(Form::Step, front),
         Form::Variable => one(Form::MaybeWord),
         Form::Polynomial => one(Form::Terms),
         Form::Term | Form::Step => one(Form::Words),
-        Form::Atom => one(Form::State),
-        Form::Quotient => two(Form::Polynomial),
+        Form::Atom(spelled) => one(Form::State(spelled)),
+        Form::Quotient(spelled) => two(polynomial_in(spelled)),
         _ => due_by(form, tag(front)),
     }
 }
@@ -118,16 +138,15 @@ fn due_by(form: Form, tag: u8) -> Due
     ensures { result ≡ follow_by form tag }
 {
     match form {
-        Form::Head => only_at(tag, 1, Form::Kinds),
         Form::Mark => due_by_mark(tag),
         Form::Exit => only_at(tag, 1, Form::Failure),
-        Form::Answer => only_at(tag, 1, Form::Content),
+        Form::Answer(spelled) => only_at(tag, 1, Form::Content(spelled)),
         Form::MaybeWord => only_at(tag, 1, Form::Word),
-        Form::State => only_at(tag, 0, Form::Contents),
+        Form::State(spelled) => only_at(tag, 0, Form::Contents(spelled)),
         Form::Value => due_by_value(tag),
-        Form::Content => due_by_content(tag),
-        Form::Conjunct => due_by_conjunct(tag),
-        Form::Cause => due_by_cause(tag),
+        Form::Content(spelled) => due_by_content(spelled, tag),
+        Form::Conjunct(spelled) => due_by_conjunct(spelled, tag),
+        Form::Cause(spelled) => due_by_cause(spelled, tag),
         _ => nothing(),
     }
 }
@@ -152,11 +171,11 @@ fn due_by_value(tag: u8) -> Due
     }
 }
 
-fn due_by_content(tag: u8) -> Due
-    ensures { result ≡ follow_by at.Content tag }
+fn due_by_content(spelled: Spelled, tag: u8) -> Due
+    ensures { result ≡ follow_by (at.Content spelled) tag }
 {
     if tag == 1 {
-        one(Form::Polynomial)
+        one(polynomial_in(spelled))
     } else if tag == 2 {
         one(Form::MaybeWord)
     } else {
@@ -164,27 +183,27 @@ fn due_by_content(tag: u8) -> Due
     }
 }
 
-fn due_by_conjunct(tag: u8) -> Due
-    ensures { result ≡ follow_by at.Conjunct tag }
+fn due_by_conjunct(spelled: Spelled, tag: u8) -> Due
+    ensures { result ≡ follow_by (at.Conjunct spelled) tag }
 {
     if tag < 2 {
-        one(Form::Polynomial)
+        one(polynomial_in(spelled))
     } else if tag < 4 {
-        two(Form::Polynomial)
+        two(polynomial_in(spelled))
     } else if tag < 6 {
         two(Form::MaybeWord)
     } else if tag < 8 {
         one(Form::Word)
     } else {
-        one(Form::Quotient)
+        one(Form::Quotient(spelled))
     }
 }
 
-fn due_by_cause(tag: u8) -> Due
-    ensures { result ≡ follow_by at.Cause tag }
+fn due_by_cause(spelled: Spelled, tag: u8) -> Due
+    ensures { result ≡ follow_by (at.Cause spelled) tag }
 {
     if tag == 0 {
-        one(Form::Conjuncts)
+        one(Form::Conjuncts(spelled))
     } else if tag == 3 {
         one(Form::Byte)
     } else {

@@ -1,64 +1,79 @@
-ghost use Rattle.std.specs.Prelude.{◌≡◌, ◌++◌, ◌∷◌, ◌≤◌, true, IfOk};
+ghost use Rattle.std.specs.Prelude.{◌≡◌, ◌++◌, ◌∷◌, ◌≤◌, true, None, IfOk};
 ghost use Rattle.px_spelling.specs.Reading.{Gives};
 ghost use Rattle.px_spelling.specs.Numbers.{u8_bytes, u32_bytes, IsU8, IsU32};
 ghost use Rattle.px_spelling.specs.Lists.{list_bytes, IsList, any_number};
-ghost use Rattle.px_spelling.specs.InFull.{entry_bytes, IsEntry, gap_bytes, IsGap};
+ghost use Rattle.px_spelling.specs.Entries.{entry_bytes, IsEntry};
+ghost use Rattle.px_spelling.specs.Tables.{gap_bytes, IsGap};
 ghost use Rattle.px_wire.specs.Messages.{any_types};
 ghost use Rattle.px_wire.specs.JobRanges.{rises};
 ghost use Rattle.px_wire.specs.TableRanges.{entry_within, gap_within};
 ghost use Rattle.px_wire.specs.Readers.{kinds_at};
-ghost use Rattle.px_parts.specs.Parts.{part_bytes, IsHead};
-ghost use Rattle.px_parts.specs.Reading.{reply_head_at, large_head_at, head_at, count_at, own_entry_at, own_drop_at};
+ghost use Rattle.px_parts.specs.Places.{IsOpened, opening_bytes};
+ghost use Rattle.px_parts.specs.Reading.{reply_opened, large_opened, opened, opening_at, sender_at, count_at, own_entry_at, own_drop_at};
+ghost use Rattle.px_parts.specs.Stream.{IsSender, sender_bytes};
+ghost use Rattle.px_parts.specs.Kept.{spelling_by, place_of};
 
-use crate::Part;
+use crate::next::Next;
 use px_entry::{Entry, Gap};
-use px_spelling::{InFull, Wire, WireFault, WireWith, read_items};
+use px_spelling::{InFull, TermList, Terms, Wire, WireFault, WireWith, read_items};
 use px_terms::Items;
-use px_wire::{ANY_TYPES, VERSION, do_kinds_rise, is_drop_within, is_entry_within};
+use px_wire::{ANY_TYPES, do_kinds_rise, is_drop_within, is_entry_within};
 use std::alloc::Global;
 
-/// The first part of a message, and the bytes after it.
-#[tactic(auto, unfolding(crate::specs::Reading::head_at, crate::specs::Reading::head_with))]
-pub(crate) fn read_head(alloc: Global, bytes: &[u8]) -> Result<(Part, &[u8]), WireFault>
-    ensures reads { Gives (λ x. (x.0, x.1.now)) result (head_at bytes.now) }
-    ensures spelled { IfOk result (λ x. (bytes.now ≡ part_bytes x.0 ++ x.1.now) × IsHead x.0) }
+/// Which message it is and its version: where it goes on, and the bytes after them.
+#[tactic(auto, unfolding(crate::specs::Reading::opening_at))]
+pub(crate) fn read_opening(alloc: Global, bytes: &[u8]) -> Result<(Next, &[u8]), WireFault>
+    ensures reads { Gives (λ x. (place_of x.0 None, x.1.now)) result (opening_at bytes.now) }
+    ensures spelled { IfOk result (λ x. (bytes.now ≡ opening_bytes (place_of x.0 None) ++ x.1.now) × IsOpened (place_of x.0 None)) }
 {
     let (tag, rest) = u8::read(alloc, bytes)?;
     let (version, rest) = u8::read(alloc, rest)?;
-    if version != VERSION {
-        return Err(WireFault::NotAMessage);
-    }
+    open(tag, version, rest)
+}
+
+// What follows the byte that says which message it is, and that of the version.
+#[tactic(auto, unfolding(crate::specs::Reading::opened))]
+fn open(tag: u8, version: u8, bytes: &[u8]) -> Result<(Next, &[u8]), WireFault>
+    ensures reads { Gives (λ x. (place_of x.0 None, x.1.now)) result (opened tag version bytes.now) }
+    ensures spelled { IfOk result (λ x. (tag ∷ version ∷ bytes.now ≡ opening_bytes (place_of x.0 None) ++ x.1.now) × IsOpened (place_of x.0 None)) }
+{
     match tag {
-        1 => read_reply_head(alloc, rest),
-        2 => read_large_head(alloc, rest),
+        1 => reply_by(version, bytes),
+        2 => large_by(version, bytes),
         _ => Err(WireFault::NotAMessage),
     }
 }
 
-#[tactic(auto, unfolding(crate::specs::Reading::reply_head_at))]
-fn read_reply_head(alloc: Global, bytes: &[u8]) -> Result<(Part, &[u8]), WireFault>
-    ensures reads { Gives (λ x. (x.0, x.1.now)) result (reply_head_at bytes.now) }
-    ensures spelled { IfOk result (λ x. (1 ∷ 1 ∷ bytes.now ≡ part_bytes x.0 ++ x.1.now) × IsHead x.0) }
+fn reply_by(version: u8, bytes: &[u8]) -> Result<(Next, &[u8]), WireFault>
+    ensures reads { Gives (λ x. (place_of x.0 None, x.1.now)) result (reply_opened version bytes.now) }
+    ensures spelled { IfOk result (λ x. (1 ∷ version ∷ bytes.now ≡ opening_bytes (place_of x.0 None) ++ x.1.now) × IsOpened (place_of x.0 None)) }
+{
+    match version {
+        1 => Ok((Next::Head, bytes)),
+        2 => Ok((Next::ListedHead, bytes)),
+        _ => Err(WireFault::NotAMessage),
+    }
+}
+
+fn large_by(version: u8, bytes: &[u8]) -> Result<(Next, &[u8]), WireFault>
+    ensures reads { Gives (λ x. (place_of x.0 None, x.1.now)) result (large_opened version bytes.now) }
+    ensures spelled { IfOk result (λ x. (2 ∷ version ∷ bytes.now ≡ opening_bytes (place_of x.0 None) ++ x.1.now) × IsOpened (place_of x.0 None)) }
+{
+    match version {
+        1 | 2 => Ok((Next::Large { version }, bytes)),
+        _ => Err(WireFault::NotAMessage),
+    }
+}
+
+/// A ticket and kinds, and the bytes after them.
+#[tactic(auto, unfolding(crate::specs::Reading::sender_at))]
+pub(crate) fn read_sender(alloc: Global, bytes: &[u8]) -> Result<(u64, Items<u8>, &[u8]), WireFault>
+    ensures reads { Gives (λ x. ((x.0, x.1), x.2.now)) result (sender_at bytes.now) }
+    ensures spelled { IfOk result (λ x. (bytes.now ≡ sender_bytes x.0 x.1 ++ x.2.now) × IsSender x.0 x.1) }
 {
     let (ticket, rest) = u64::read(alloc, bytes)?;
     let (kinds, rest) = read_kinds(alloc, rest)?;
-    let version = VERSION;
-    let head = Part::Head {
-        version,
-        ticket,
-        kinds,
-    };
-    Ok((head, rest))
-}
-
-#[tactic(auto, unfolding(crate::specs::Reading::large_head_at))]
-fn read_large_head(alloc: Global, bytes: &[u8]) -> Result<(Part, &[u8]), WireFault>
-    ensures reads { Gives (λ x. (x.0, x.1.now)) result (large_head_at bytes.now) }
-    ensures spelled { IfOk result (λ x. (2 ∷ 1 ∷ bytes.now ≡ part_bytes x.0 ++ x.1.now) × IsHead x.0) }
-{
-    let (ticket, rest) = u64::read(alloc, bytes)?;
-    let version = VERSION;
-    Ok((Part::Large { version, ticket }, rest))
+    Ok((ticket, kinds, rest))
 }
 
 // Kinds that rise.
@@ -90,13 +105,31 @@ pub(crate) fn read_count(alloc: Global, most: u32, bytes: &[u8]) -> Result<(u32,
     }
 }
 
-/// An entry that mentions its own variables alone, and the bytes after it.
-#[tactic(auto, unfolding(crate::specs::Reading::own_entry_at))]
-pub(crate) fn read_entry(alloc: Global, bytes: &[u8]) -> Result<(Entry, &[u8]), WireFault>
-    ensures reads { Gives (λ x. (x.0, x.1.now)) result (own_entry_at bytes.now) }
-    ensures spelled { IfOk result (λ x. (bytes.now ≡ entry_bytes x.0 ++ x.1.now) × IsEntry x.0 × (entry_within any_types x.0 ≡ true)) }
+/// An entry that mentions its own variables alone, and the bytes after it. Where there is a list of terms, polynomials are by place.
+pub(crate) fn read_entry<'a>(
+    alloc: Global,
+    terms: &Option<TermList>,
+    bytes: &'a [u8],
+) -> Result<(Entry, &'a [u8]), WireFault>
+    ensures reads { Gives (λ x. (x.0, x.1.now)) result (own_entry_at (spelling_by terms.now) bytes.now) }
+    ensures spelled { IfOk result (λ x. (bytes.now ≡ entry_bytes (spelling_by terms.now) x.0 ++ x.1.now) × IsEntry (spelling_by terms.now) x.0 × (entry_within any_types x.0 ≡ true)) }
 {
-    let (entry, rest) = Entry::read_with(&InFull, alloc, bytes)?;
+    match terms {
+        None => read_entry_with(&InFull, alloc, bytes),
+        Some(list) => read_entry_with(list, alloc, bytes),
+    }
+}
+
+#[tactic(auto, unfolding(crate::specs::Reading::own_entry_at))]
+fn read_entry_with<'a, S: Terms>(
+    terms: &S,
+    alloc: Global,
+    bytes: &'a [u8],
+) -> Result<(Entry, &'a [u8]), WireFault>
+    ensures reads { Gives (λ x. (x.0, x.1.now)) result (own_entry_at (S.spelling terms.now) bytes.now) }
+    ensures spelled { IfOk result (λ x. (bytes.now ≡ entry_bytes (S.spelling terms.now) x.0 ++ x.1.now) × IsEntry (S.spelling terms.now) x.0 × (entry_within any_types x.0 ≡ true)) }
+{
+    let (entry, rest) = Entry::read_with(terms, alloc, bytes)?;
     if is_entry_within(ANY_TYPES, &entry) {
         Ok((entry, rest))
     } else {
@@ -104,13 +137,31 @@ pub(crate) fn read_entry(alloc: Global, bytes: &[u8]) -> Result<(Entry, &[u8]), 
     }
 }
 
-/// A drop whose variables are few enough, and the bytes after it.
-#[tactic(auto, unfolding(crate::specs::Reading::own_drop_at))]
-pub(crate) fn read_drop(alloc: Global, bytes: &[u8]) -> Result<(Gap, &[u8]), WireFault>
-    ensures reads { Gives (λ x. (x.0, x.1.now)) result (own_drop_at bytes.now) }
-    ensures spelled { IfOk result (λ x. (bytes.now ≡ gap_bytes x.0 ++ x.1.now) × IsGap x.0 × (gap_within x.0 ≡ true)) }
+/// A drop whose variables are few enough, and the bytes after it. Where there is a list of terms, polynomials are by place.
+pub(crate) fn read_drop<'a>(
+    alloc: Global,
+    terms: &Option<TermList>,
+    bytes: &'a [u8],
+) -> Result<(Gap, &'a [u8]), WireFault>
+    ensures reads { Gives (λ x. (x.0, x.1.now)) result (own_drop_at (spelling_by terms.now) bytes.now) }
+    ensures spelled { IfOk result (λ x. (bytes.now ≡ gap_bytes (spelling_by terms.now) x.0 ++ x.1.now) × IsGap (spelling_by terms.now) x.0 × (gap_within x.0 ≡ true)) }
 {
-    let (gap, rest) = Gap::read_with(&InFull, alloc, bytes)?;
+    match terms {
+        None => read_drop_with(&InFull, alloc, bytes),
+        Some(list) => read_drop_with(list, alloc, bytes),
+    }
+}
+
+#[tactic(auto, unfolding(crate::specs::Reading::own_drop_at))]
+fn read_drop_with<'a, S: Terms>(
+    terms: &S,
+    alloc: Global,
+    bytes: &'a [u8],
+) -> Result<(Gap, &'a [u8]), WireFault>
+    ensures reads { Gives (λ x. (x.0, x.1.now)) result (own_drop_at (S.spelling terms.now) bytes.now) }
+    ensures spelled { IfOk result (λ x. (bytes.now ≡ gap_bytes (S.spelling terms.now) x.0 ++ x.1.now) × IsGap (S.spelling terms.now) x.0 × (gap_within x.0 ≡ true)) }
+{
+    let (gap, rest) = Gap::read_with(terms, alloc, bytes)?;
     if is_drop_within(&gap) {
         Ok((gap, rest))
     } else {

@@ -1,18 +1,20 @@
 ghost use Rattle.std.specs.Prelude.{◌≡◌, []};
-ghost use Rattle.px_parts.specs.declared.place.Place.TheVariants.{Start};
+ghost use Rattle.px_parts.specs.Places.{Start};
 ghost use Rattle.px_parts.specs.Taking.{waits, IsTaken};
 
+use crate::Taken;
+use crate::next::Next;
 use crate::skim::Skim;
 use crate::unread::{Unread, take_piece};
-use crate::{Place, Taken};
 use px_spelling::WireFault;
 use std::alloc::Global;
 use std::marker::Model;
 
 /// Reads the parts of one message of a worker, whose bytes come in pieces.
 ///
-/// It keeps the bytes of one unfinished part and of a piece. An unfinished part is passed over as its bytes come, without a look at what they
-/// say, and read when all are there: so the time is as the number of bytes, however they are cut.
+/// It keeps the bytes of one unfinished part and of a piece, and, in version 2, the terms of the message. An unfinished part is passed
+/// over as its bytes come, without a look at what they say, and read when all are there: so the time is as the number of bytes, however they
+/// are cut. The list of terms belongs to the head, and each polynomial behind it is looked up there.
 #[derive(Drop)]
 pub struct Reader {
     alloc: Global,
@@ -23,14 +25,14 @@ pub struct Reader {
 impl Model for Reader {
     ghost use Rattle.std.specs.Prelude.{◌≤◌, length};
     ghost use Rattle.px_parts.specs.Taking.{Waiting};
-    ghost use Rattle.px_parts.specs.Kept.{held_in, kept_by};
+    ghost use Rattle.px_parts.specs.Kept.{place_in, held_in, kept_by};
     ghost use Rattle.px_parts.specs.Skims.{IsSkim};
 
     ghost Value = { Waiting };
 
     ghost view = { λ r. kept_by r.refused r.unread };
 
-    ghost invariant = { λ r. (r.unread.start ≤ length r.unread.held.items) × IsSkim r.unread.place (held_in r.unread) r.unread.skim };
+    ghost invariant = { λ r. (r.unread.start ≤ length r.unread.held.items) × IsSkim (place_in r.unread) (held_in r.unread) r.unread.skim };
 }
 
 impl Reader {
@@ -41,7 +43,8 @@ impl Reader {
         Reader {
             alloc,
             unread: Unread {
-                place: Place::Start,
+                next: Next::Start,
+                terms: None,
                 held: Vec::new(alloc),
                 start: 0,
                 left: length,

@@ -1,12 +1,15 @@
 ghost use Rattle.std.specs.Prelude.{◌≡◌, ◌≢◌, ℕ, suc, List, ◌+◌, ◌*◌, ◌-◌, ◌<◌, ◌≤◌, ◌++◌, ◌∷◌, [], None, Some, length, drop, IfOk, IfSome, IfNone, OnOk};
 ghost use Rattle.px_parts.specs.declared.form.Form.TheVariants as at;
+ghost use Rattle.px_parts.specs.Places.{Place, Head};
 ghost use Rattle.px_parts.specs.declared.skim.Known.TheVariants.{Short, Whole};
-ghost use Rattle.px_parts.specs.Forms.{due, next, Passes, entry_dues, dues_at};
+ghost use Rattle.px_parts.specs.Forms.{polynomial_in, due, next, Passes, entry_dues, drop_dues, spelled_by, dues_at};
 ghost use Rattle.px_parts.specs.Skims.{IsSkim, IsEnded};
 ghost use Rattle.px_parts.specs.Stream.{IsStuck};
+ghost use Rattle.px_parts.specs.Kept.{naming, place_of};
 
-use crate::Place;
-use crate::form::{Due, Form, due_after, size_of, stands_alone};
+use crate::form::{Due, Form, Spelled, due_after, size_of, stands_alone};
+use crate::next::Next;
+use px_spelling::TermList;
 use px_terms::NoMemory;
 use std::alloc::Global;
 use std::collections::VecDeque;
@@ -44,13 +47,13 @@ impl Skim {
         }
     }
 
-    /// At a place, where no byte was passed.
+    /// Where this comes next, and no byte was passed. These are the terms, if there is a list of them.
     #[tactic(auto, using(crate::proofs::Skimming::skim_begins, crate::proofs::Skimming::skim_not_begun))]
-    pub(crate) fn begin(alloc: Global, place: Place) -> Skim
-        ensures { (bytes : List ℕ) → IsSkim place bytes result }
+    pub(crate) fn begin(alloc: Global, next: Next, terms: &Option<TermList>) -> Skim
+        ensures { (bytes : List ℕ) → IsSkim (place_of next terms.now) bytes result }
     {
         let mut dues = VecDeque::new(alloc);
-        match put_dues(&mut dues, place) {
+        match put_dues(&mut dues, next, terms) {
             Ok(()) => Skim {
                 dues,
                 passed: 0,
@@ -169,7 +172,7 @@ fn behind_one(form: Form, bytes: &[u8]) -> Option<&[u8]>
 {
     match form {
         Form::Value => behind_value(bytes),
-        Form::Content => behind_content(bytes),
+        Form::Content(spelled) => behind_content(spelled, bytes),
         Form::Variable => behind_variable(bytes),
         Form::Step => behind_step(bytes),
         _ => behind_any(form, bytes),
@@ -192,19 +195,30 @@ fn behind_value(bytes: &[u8]) -> Option<&[u8]>
     }
 }
 
-// Behind a content that is no word.
-fn behind_content(bytes: &[u8]) -> Option<&[u8]>
-    ensures passes { IfSome result (λ rest. (n : ℕ) (dues : List Due) → Passes (due at.Content (suc n) ∷ dues) bytes.now (due at.Content n ∷ dues) rest.now) }
+// Behind a content that is no word, or one that is by its place.
+fn behind_content(spelled: Spelled, bytes: &[u8]) -> Option<&[u8]>
+    ensures passes { IfSome result (λ rest. (n : ℕ) (dues : List Due) → Passes (due (at.Content spelled) (suc n) ∷ dues) bytes.now (due (at.Content spelled) n ∷ dues) rest.now) }
     ensures shorter { IfSome result (λ rest. length rest.now < length bytes.now) }
 {
     match bytes {
         [] => None,
         [tag, after @ ..] => match *tag {
-            1 => None,
+            1 => behind_polynomial(spelled, after),
             2 => behind_maybe_word(after),
             3 => behind_word(after),
             _ => Some(after),
         },
+    }
+}
+
+// Behind one that is by its place.
+fn behind_polynomial(spelled: Spelled, bytes: &[u8]) -> Option<&[u8]>
+    ensures passes { IfSome result (λ rest. (n : ℕ) (dues : List Due) → Passes (due (polynomial_in spelled) (suc n) ∷ dues) bytes.now (due (polynomial_in spelled) n ∷ dues) rest.now) }
+    ensures shorter { IfSome result (λ rest. length rest.now < length bytes.now) }
+{
+    match spelled {
+        Spelled::InFull => None,
+        Spelled::ByPlace => behind_word(bytes),
     }
 }
 
@@ -338,56 +352,89 @@ fn pass_first<'a>(
     Ok(Some(rest))
 }
 
-// Puts what is due at a place behind what is due.
-fn put_dues(dues: &mut VecDeque<Due>, place: Place) -> Result<(), NoMemory>
-    ensures { OnOk result (dues.new.items ≡ dues.old.items ++ dues_at place) }
+// Puts what is due of what comes next behind what is due.
+fn put_dues(dues: &mut VecDeque<Due>, next: Next, terms: &Option<TermList>) -> Result<(), NoMemory>
+    ensures { OnOk result (dues.new.items ≡ dues.old.items ++ dues_at (place_of next terms.now)) }
 {
-    match place {
-        Place::Start => put(dues, Form::Head),
-        Place::EntryCount | Place::DropCount { .. } | Place::DerivationCount => put(
-            dues,
-            Form::Word,
-        ),
-        Place::Entries { left, .. } => {
+    match next {
+        Next::Start => put_two(dues, Form::Byte),
+        Next::Head => put_head(dues),
+        Next::ListedHead => {
+            put(dues, Form::Polynomials)?;
+            put_head(dues)
+        }
+        Next::Large { .. } => put(dues, Form::Ticket),
+        Next::EntryCount | Next::DropCount { .. } | Next::DerivationCount => put(dues, Form::Word),
+        Next::Entries { left, .. } => {
             if left == 0 {
                 return Ok(());
             }
-            put_entry(dues)
+            put_entry(dues, spelled(terms))
         }
-        Place::Drops { left } => {
+        Next::Drops { left, .. } => {
             if left == 0 {
                 return Ok(());
             }
-            put(dues, Form::Marks)?;
-            put(dues, Form::Cause)
+            put_drop(dues, spelled(terms))
         }
-        Place::Derivations { left } => {
+        Next::Derivations { left } => {
             if left == 0 {
                 return Ok(());
             }
             put(dues, Form::Steps)
         }
-        Place::Over => Ok(()),
+        Next::Over => Ok(()),
     }
 }
 
-fn put_entry(dues: &mut VecDeque<Due>) -> Result<(), NoMemory>
-    ensures { OnOk result (dues.new.items ≡ dues.old.items ++ entry_dues) }
+// How polynomials are spelled, where these are the terms.
+fn spelled(terms: &Option<TermList>) -> Spelled
+    ensures { (n : ℕ) → result ≡ spelled_by (naming terms.now n) }
+{
+    match terms {
+        None => Spelled::InFull,
+        Some(_) => Spelled::ByPlace,
+    }
+}
+
+fn put_head(dues: &mut VecDeque<Due>) -> Result<(), NoMemory>
+    ensures { OnOk result (dues.new.items ≡ dues.old.items ++ dues_at Head) }
+{
+    put(dues, Form::Ticket)?;
+    put(dues, Form::Kinds)
+}
+
+fn put_entry(dues: &mut VecDeque<Due>, spelled: Spelled) -> Result<(), NoMemory>
+    ensures { OnOk result (dues.new.items ≡ dues.old.items ++ entry_dues spelled) }
 {
     put(dues, Form::Word)?;
     put(dues, Form::Marks)?;
     put(dues, Form::Exit)?;
-    put(dues, Form::Answer)?;
+    put(dues, Form::Answer(spelled))?;
     put(dues, Form::Variables)?;
-    put(dues, Form::Conjuncts)?;
-    put(dues, Form::Atoms)?;
-    put(dues, Form::Atoms)?;
+    put(dues, Form::Conjuncts(spelled))?;
+    put(dues, Form::Atoms(spelled))?;
+    put(dues, Form::Atoms(spelled))?;
     put(dues, Form::Values)
+}
+
+fn put_drop(dues: &mut VecDeque<Due>, spelled: Spelled) -> Result<(), NoMemory>
+    ensures { OnOk result (dues.new.items ≡ dues.old.items ++ drop_dues spelled) }
+{
+    put(dues, Form::Marks)?;
+    put(dues, Form::Cause(spelled))
 }
 
 fn put(dues: &mut VecDeque<Due>, form: Form) -> Result<(), NoMemory>
     ensures { OnOk result (dues.new.items ≡ dues.old.items ++ due form 1 ∷ []) }
 {
     dues.push_back(Due { form, count: 1 })?;
+    Ok(())
+}
+
+fn put_two(dues: &mut VecDeque<Due>, form: Form) -> Result<(), NoMemory>
+    ensures { OnOk result (dues.new.items ≡ dues.old.items ++ due form 2 ∷ []) }
+{
+    dues.push_back(Due { form, count: 2 })?;
     Ok(())
 }

@@ -1,22 +1,26 @@
 ghost use Rattle.std.specs.Prelude.{◌≡◌, ◌↔◌, ◌-◌, ◌≤◌, ◌++◌, true, false, length, take, drop, IsErrOf, OnErr, OnOk};
 ghost use Rattle.px_spelling.specs.declared.fault.WireFault.TheVariants as fault;
-ghost use Rattle.px_parts.specs.declared.place.Place.TheVariants.{Over};
+ghost use Rattle.px_parts.specs.declared.next.Next.TheVariants.{Over};
 ghost use Rattle.px_parts.specs.declared.skim.Known.TheVariants.{Short, Whole};
 ghost use Rattle.px_parts.specs.Stream.{IsStuck};
 ghost use Rattle.px_parts.specs.Taking.{IsTakenOn};
 ghost use Rattle.px_parts.specs.Skims.{IsSkim, IsEnded};
-ghost use Rattle.px_parts.specs.Kept.{held_in, kept_after, IsQuiet, IsAnswer, IsSame};
+ghost use Rattle.px_parts.specs.Kept.{part_in, terms_behind, place_in, held_in, kept_after, IsQuiet, IsAnswer, IsSame};
 
 use crate::finding::find;
+use crate::next::Next;
 use crate::skim::{Known, Skim};
-use crate::{Part, Place, Taken};
-use px_spelling::WireFault;
+use crate::steps::Given;
+use crate::{Part, Taken};
+use px_spelling::{TermList, WireFault};
 use std::alloc::Global;
 
 /// What comes next, and the bytes from there that were taken.
 #[derive(Drop)]
 pub(crate) struct Unread {
-    pub(crate) place: Place,
+    pub(crate) next: Next,
+    /// The terms of the message, behind its head if it has a list of them.
+    pub(crate) terms: Option<TermList>,
     /// Bytes that were taken. The first are of parts that were given.
     pub(crate) held: Vec<u8>,
     pub(crate) start: usize,
@@ -36,25 +40,31 @@ pub(crate) fn take_piece(
     piece: &[u8],
 ) -> Result<Taken, WireFault>
     requires within { unread.old.start ≤ length unread.old.held.items }
-    requires skim { IsSkim unread.old.place (held_in unread.old) unread.old.skim }
+    requires skim { IsSkim (place_in unread.old) (held_in unread.old) unread.old.skim }
     ensures within { unread.new.start ≤ length unread.new.held.items }
-    ensures skim { IsSkim unread.new.place (held_in unread.new) unread.new.skim }
-    ensures taken { IsTakenOn unread.old.place (held_in unread.old) unread.old.left piece.now result (kept_after result unread.new) }
+    ensures skim { IsSkim (place_in unread.new) (held_in unread.new) unread.new.skim }
+    ensures taken { IsTakenOn (place_in unread.old) (held_in unread.old) unread.old.left piece.now result (kept_after result unread.new) }
 {
     let count = piece.len().min(unread.left as usize);
     hold(alloc, unread, first(piece, count))?;
     if let Known::Short = look_first(alloc, unread, count) {
         unread.left -= count as u32;
         let behind = count_held(unread);
-        return answer(None, unread.place, behind, unread.left, false, count as u64);
+        return answer(None, unread.next, behind, unread.left, false, count as u64);
     }
-    match find(alloc, unread.place, from_start(&unread.held, unread.start)) {
+    match find(
+        alloc,
+        unread.next,
+        &unread.terms,
+        from_start(&unread.held, unread.start),
+    ) {
         Ok(found) => {
-            let (part, place, rest) = found;
+            let (given, next, rest) = found;
             let behind = rest.len();
-            go_on(unread, place, behind, count as u32);
+            let part = keep_terms(unread, given);
+            go_on(unread, next, behind, count as u32);
             let ended = is_wrong(alloc, unread, &part);
-            answer(part, place, behind, unread.left, ended, count as u64)
+            answer(part, next, behind, unread.left, ended, count as u64)
         }
         Err(fault) => {
             take_back(unread, count);
@@ -91,7 +101,8 @@ fn count_held(unread: &Unread) -> usize
 fn take_back(unread: &mut Unread, count: usize)
     ensures held { unread.new.held.items ≡ take (length unread.old.held.items - count) unread.old.held.items }
     ensures start { unread.new.start ≡ unread.old.start }
-    ensures place { unread.new.place ≡ unread.old.place }
+    ensures next { unread.new.next ≡ unread.old.next }
+    ensures terms { unread.new.terms ≡ unread.old.terms }
     ensures left { unread.new.left ≡ unread.old.left }
     ensures begun { unread.new.skim.begun ≡ false }
 {
@@ -104,10 +115,11 @@ fn take_back(unread: &mut Unread, count: usize)
 #[tactic(auto, using(crate::proofs::Holding::skim_same, crate::proofs::Holding::skim_held, crate::proofs::Holding::held_more))]
 fn hold(alloc: Global, unread: &mut Unread, bytes: &[u8]) -> Result<(), WireFault>
     requires within { unread.old.start ≤ length unread.old.held.items }
-    requires skim { IsSkim unread.old.place (held_in unread.old) unread.old.skim }
+    requires skim { IsSkim (place_in unread.old) (held_in unread.old) unread.old.skim }
     ensures within { unread.new.start ≤ length unread.new.held.items }
-    ensures skim { IsSkim unread.new.place (held_in unread.new) unread.new.skim }
-    ensures place { unread.new.place ≡ unread.old.place }
+    ensures skim { IsSkim (place_in unread.new) (held_in unread.new) unread.new.skim }
+    ensures next { unread.new.next ≡ unread.old.next }
+    ensures terms { unread.new.terms ≡ unread.old.terms }
     ensures left { unread.new.left ≡ unread.old.left }
     ensures held { OnOk result (held_in unread.new ≡ held_in unread.old ++ bytes.now) }
     ensures same { OnErr result (held_in unread.new ≡ held_in unread.old) }
@@ -126,10 +138,11 @@ fn hold(alloc: Global, unread: &mut Unread, bytes: &[u8]) -> Result<(), WireFaul
 #[tactic(auto, using(crate::proofs::Holding::skim_same))]
 fn make_room(alloc: Global, unread: &mut Unread, more: usize) -> Result<(), WireFault>
     requires within { unread.old.start ≤ length unread.old.held.items }
-    requires skim { IsSkim unread.old.place (held_in unread.old) unread.old.skim }
+    requires skim { IsSkim (place_in unread.old) (held_in unread.old) unread.old.skim }
     ensures within { unread.new.start ≤ length unread.new.held.items }
-    ensures skim { IsSkim unread.new.place (held_in unread.new) unread.new.skim }
-    ensures place { unread.new.place ≡ unread.old.place }
+    ensures skim { IsSkim (place_in unread.new) (held_in unread.new) unread.new.skim }
+    ensures next { unread.new.next ≡ unread.old.next }
+    ensures terms { unread.new.terms ≡ unread.old.terms }
     ensures left { unread.new.left ≡ unread.old.left }
     ensures same { held_in unread.new ≡ held_in unread.old }
     ensures memory { ¬ IsErrOf result fault.NotAMessage }
@@ -150,9 +163,9 @@ fn make_room(alloc: Global, unread: &mut Unread, more: usize) -> Result<(), Wire
 fn look(unread: &mut Unread) -> Known
     requires within { unread.old.start ≤ length unread.old.held.items }
     ensures same { IsSame unread.old unread.new }
-    ensures skim { IsSkim unread.old.place (held_in unread.old) unread.old.skim → IsSkim unread.old.place (held_in unread.old) unread.new.skim }
-    ensures short { IsSkim unread.old.place (held_in unread.old) unread.old.skim → result ≡ Short → IsStuck unread.old.place (held_in unread.old) }
-    ensures whole { IsSkim unread.old.place (held_in unread.old) unread.old.skim → result ≡ Whole → IsEnded unread.old.place (held_in unread.old) }
+    ensures skim { IsSkim (place_in unread.old) (held_in unread.old) unread.old.skim → IsSkim (place_in unread.old) (held_in unread.old) unread.new.skim }
+    ensures short { IsSkim (place_in unread.old) (held_in unread.old) unread.old.skim → result ≡ Short → IsStuck (place_in unread.old) (held_in unread.old) }
+    ensures whole { IsSkim (place_in unread.old) (held_in unread.old) unread.old.skim → result ≡ Whole → IsEnded (place_in unread.old) (held_in unread.old) }
 {
     unread.skim.pass(from_start(&unread.held, unread.start))
 }
@@ -162,24 +175,42 @@ fn look(unread: &mut Unread) -> Known
 fn look_first(alloc: Global, unread: &mut Unread, count: usize) -> Known
     requires within { unread.old.start ≤ length unread.old.held.items }
     ensures same { IsSame unread.old unread.new }
-    ensures skim { IsSkim unread.old.place (held_in unread.old) unread.old.skim → IsSkim unread.old.place (held_in unread.old) unread.new.skim }
-    ensures short { IsSkim unread.old.place (held_in unread.old) unread.old.skim → result ≡ Short → IsStuck unread.old.place (held_in unread.old) }
+    ensures skim { IsSkim (place_in unread.old) (held_in unread.old) unread.old.skim → IsSkim (place_in unread.old) (held_in unread.old) unread.new.skim }
+    ensures short { IsSkim (place_in unread.old) (held_in unread.old) unread.old.skim → result ≡ Short → IsStuck (place_in unread.old) (held_in unread.old) }
 {
     let are_few = count < unread.left as usize && count_held(unread) < unread.expected;
     if are_few && !unread.skim.begun {
-        unread.skim = Skim::begin(alloc, unread.place);
+        unread.skim = Skim::begin(alloc, unread.next, &unread.terms);
     }
     look(unread)
 }
 
-// Goes on to a place with so many bytes behind it, where so many more were taken. A part has more bytes than a count, which has four.
+// Keeps the terms that were given with a part, and gives the part.
+fn keep_terms(unread: &mut Unread, given: Option<Given>) -> Option<Part>
+    ensures part { result ≡ part_in given }
+    ensures terms { unread.new.terms ≡ terms_behind unread.old.terms given }
+    ensures held { unread.new.held.items ≡ unread.old.held.items }
+    ensures left { unread.new.left ≡ unread.old.left }
+{
+    match given {
+        None => None,
+        Some(Given::Head(part, terms)) => {
+            unread.terms = terms;
+            Some(part)
+        }
+        Some(Given::Row(part)) => Some(part),
+    }
+}
+
+// Goes on with so many bytes behind, where so many more were taken. A part has more bytes than a count, which has four.
 #[tactic(auto, using(crate::proofs::Skimming::skim_not_begun))]
-fn go_on(unread: &mut Unread, place: Place, behind: usize, count: u32)
+fn go_on(unread: &mut Unread, next: Next, behind: usize, count: u32)
     requires behind { behind ≤ length unread.old.held.items }
     requires left { count ≤ unread.old.left }
     ensures within { unread.new.start ≤ length unread.new.held.items }
-    ensures skim { IsSkim unread.new.place (held_in unread.new) unread.new.skim }
-    ensures place { unread.new.place ≡ place }
+    ensures skim { IsSkim (place_in unread.new) (held_in unread.new) unread.new.skim }
+    ensures next { unread.new.next ≡ next }
+    ensures terms { unread.new.terms ≡ unread.old.terms }
     ensures left { unread.new.left ≡ unread.old.left - count }
     ensures held { held_in unread.new ≡ drop (length unread.old.held.items - behind) unread.old.held.items }
 {
@@ -188,7 +219,7 @@ fn go_on(unread: &mut Unread, place: Place, behind: usize, count: u32)
     if passed > 4 {
         unread.expected = passed;
     }
-    unread.place = place;
+    unread.next = next;
     unread.start = end;
     unread.left -= count;
     unread.skim.begun = false;
@@ -197,10 +228,10 @@ fn go_on(unread: &mut Unread, place: Place, behind: usize, count: u32)
 // Whether nothing was found, though all bytes are there of what comes next.
 fn is_wrong(alloc: Global, unread: &mut Unread, part: &Option<Part>) -> bool
     requires within { unread.old.start ≤ length unread.old.held.items }
-    requires skim { IsSkim unread.old.place (held_in unread.old) unread.old.skim }
+    requires skim { IsSkim (place_in unread.old) (held_in unread.old) unread.old.skim }
     ensures same { IsSame unread.old unread.new }
-    ensures skim { IsSkim unread.old.place (held_in unread.old) unread.new.skim }
-    ensures ended { result ≡ true → IsEnded unread.old.place (held_in unread.old) }
+    ensures skim { IsSkim (place_in unread.old) (held_in unread.old) unread.new.skim }
+    ensures ended { result ≡ true → IsEnded (place_in unread.old) (held_in unread.old) }
 {
     match part {
         Some(_) => false,
@@ -212,10 +243,10 @@ fn is_wrong(alloc: Global, unread: &mut Unread, part: &Option<Part>) -> bool
 fn is_ended(alloc: Global, unread: &mut Unread) -> bool
     requires within { unread.old.start ≤ length unread.old.held.items }
     ensures same { IsSame unread.old unread.new }
-    ensures skim { IsSkim unread.old.place (held_in unread.old) unread.new.skim }
-    ensures ended { result ≡ true → IsEnded unread.old.place (held_in unread.old) }
+    ensures skim { IsSkim (place_in unread.old) (held_in unread.old) unread.new.skim }
+    ensures ended { result ≡ true → IsEnded (place_in unread.old) (held_in unread.old) }
 {
-    unread.skim = Skim::begin(alloc, unread.place);
+    unread.skim = Skim::begin(alloc, unread.next, &unread.terms);
     match look(unread) {
         Known::Whole => true,
         Known::Short | Known::Nothing => false,
@@ -226,26 +257,26 @@ fn is_ended(alloc: Global, unread: &mut Unread) -> bool
 // what comes next.
 fn answer(
     part: Option<Part>,
-    place: Place,
+    next: Next,
     behind: usize,
     left: u32,
     ended: bool,
     taken: u64,
 ) -> Result<Taken, WireFault>
-    ensures { IsAnswer part place behind left ended taken result }
+    ensures { IsAnswer part next behind left ended taken result }
 {
     match part {
         Some(part) => Ok(Taken { part, taken }),
         None => {
-            let part = quiet(place, behind, left, ended)?;
+            let part = quiet(next, behind, left, ended)?;
             Ok(Taken { part, taken })
         }
     }
 }
 
 // Nothing yet, the end, or that there is none.
-fn quiet(place: Place, behind: usize, left: u32, ended: bool) -> Result<Part, WireFault>
-    ensures { IsQuiet place behind left ended result }
+fn quiet(next: Next, behind: usize, left: u32, ended: bool) -> Result<Part, WireFault>
+    ensures { IsQuiet next behind left ended result }
 {
     if left > 0 {
         if ended {
@@ -253,18 +284,18 @@ fn quiet(place: Place, behind: usize, left: u32, ended: bool) -> Result<Part, Wi
         }
         return Ok(Part::Held);
     }
-    if behind == 0 && is_over(place) {
+    if behind == 0 && is_over(next) {
         Ok(Part::End)
     } else {
         Err(WireFault::NotAMessage)
     }
 }
 
-fn is_over(place: Place) -> bool
-    ensures { result ≡ true ↔ place ≡ Over }
+fn is_over(next: Next) -> bool
+    ensures { result ≡ true ↔ next ≡ Over }
 {
-    match place {
-        Place::Over => true,
+    match next {
+        Next::Over => true,
         _ => false,
     }
 }

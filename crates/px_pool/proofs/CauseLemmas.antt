@@ -8,7 +8,8 @@ use Rattle.px_frames.specs.Cutting.{AreFrames}
 use Rattle.px_frames.proofs.CutLemmas.{one_cutting, frame_size}
 use Rattle.px_pieces.specs.declared.desk.Lost.{Lost}
 use Rattle.px_pieces.specs.declared.desk.Lost.TheVariants.{Send, Read, Closed, Frame, Ticket, Kinds, Refused, Large, NoMemory}
-use Rattle.px_wire.specs.Messages.{Spells, reply}
+use Rattle.px_wire.specs.Messages.{reply}
+use Rattle.px_wire.specs.Versions.{SpellsIn}
 use Rattle.px_pool.specs.Talks.{Talk, nothing}
 use Rattle.px_pool.specs.Outcomes.{request_of, IsUnasked, IsUnanswered, IsGiven, IsAnswered, IsFaultIn, IsCauseOf}
 use Rattle.px_pool.specs.Laws.{IsShown, OneOutcome}
@@ -137,55 +138,55 @@ stops_or_whole bytes m e NoMemory h is short = h
 
 -- ---- the whole exchange
 
-unasked_is : (j : JobTree) (why : Lost) → IsShown why → IsUnasked j why → why ≡ Large
-unasked_is j Large s h = refl
-unasked_is j NoMemory s h = absurd s
-unasked_is j Send s h = absurd h
-unasked_is j Read s h = absurd h
-unasked_is j (Closed n) s h = absurd h
-unasked_is j Frame s h = absurd h
-unasked_is j (Ticket asked given) s h = absurd h
-unasked_is j Kinds s h = absurd h
-unasked_is j (Refused entry step) s h = absurd h
+unasked_is : (v : ℕ) (j : JobTree) (why : Lost) → IsShown why → IsUnasked v j why → why ≡ Large
+unasked_is v j Large s h = refl
+unasked_is v j NoMemory s h = absurd s
+unasked_is v j Send s h = absurd h
+unasked_is v j Read s h = absurd h
+unasked_is v j (Closed n) s h = absurd h
+unasked_is v j Frame s h = absurd h
+unasked_is v j (Ticket asked given) s h = absurd h
+unasked_is v j Kinds s h = absurd h
+unasked_is v j (Refused entry step) s h = absurd h
 
 nothing_sent : (x : Talk) (m : List ℕ) → x ≡ nothing → x.sent ≡ frame_of m → ⊥
 nothing_sent x m none sent =
     let empty : [] ≡ frame_of m = sym (ap (λ (z : Talk). z.sent) none) ∙ sent in
     let clash : 0 ≡ 4 + length m = ap length empty ∙ frame_size m in omega (arith, clash)
 
-sent_in : (j : JobTree) (x : Talk) (m : List ℕ) → IsGiven j x m → x.sent ≡ frame_of (request_of j)
-sent_in j x m g = ap (λ (z : Talk). z.sent) g.talk
+sent_in : (v : ℕ) (j : JobTree) (x : Talk) (m : List ℕ) → IsGiven v j x m → x.sent ≡ frame_of (request_of v j)
+sent_in v j x m g = ap (λ (z : Talk). z.sent) g.talk
 
-given_in : (j : JobTree) (x : Talk) (m : List ℕ) → IsGiven j x m → x.given ≡ frame_of m
-given_in j x m g = ap (λ (z : Talk). z.given) g.talk
+given_in : (v : ℕ) (j : JobTree) (x : Talk) (m : List ℕ) → IsGiven v j x m → x.given ≡ frame_of m
+given_in v j x m g = ap (λ (z : Talk). z.given) g.talk
 
-one_given : (j : JobTree) (x : Talk) (m n : List ℕ) → IsGiven j x m → IsGiven j x n → m ≡ n
-one_given j x m n g h = one_message x.given m n (given_in j x m g) (given_in j x n h) g.given_short h.given_short
+one_given : (v : ℕ) (j : JobTree) (x : Talk) (m n : List ℕ) → IsGiven v j x m → IsGiven v j x n → m ≡ n
+one_given v j x m n g h = one_message x.given m n (given_in v j x m g) (given_in v j x n h) g.given_short h.given_short
 
-pub one_cause : (j : JobTree) (x : Talk) (why other : Lost) → IsShown why → IsShown other → IsCauseOf j x why → IsCauseOf j x other → why ≡ other
-one_cause j x why other s s' (inl (_, p)) (inl (_, q)) = unasked_is j why s p ∙ sym (unasked_is j other s' q)
-one_cause j x why other s s' (inl (none, _)) (inr (inl (_, q))) = absurd (nothing_sent x (request_of j) none (stops_so (frame_of (request_of j)) x other s' q).0)
-one_cause j x why other s s' (inl (none, _)) (inr (inr (m, g, _))) = absurd (nothing_sent x (request_of j) none (sent_in j x m g))
-one_cause j x why other s s' (inr (inl (_, p))) (inl (none, _)) = absurd (nothing_sent x (request_of j) none (stops_so (frame_of (request_of j)) x why s p).0)
-one_cause j x why other s s' (inr (inl (_, p))) (inr (inl (_, q))) =
-    one_stop x.given x.ended why other (stops_so (frame_of (request_of j)) x why s p).1 (stops_so (frame_of (request_of j)) x other s' q).1
-one_cause j x why other s s' (inr (inl (_, p))) (inr (inr (m, g, _))) =
-    absurd (stops_or_whole x.given m x.ended why (stops_so (frame_of (request_of j)) x why s p).1 (given_in j x m g) g.given_short)
-one_cause j x why other s s' (inr (inr (m, g, _))) (inl (none, _)) = absurd (nothing_sent x (request_of j) none (sent_in j x m g))
-one_cause j x why other s s' (inr (inr (m, g, _))) (inr (inl (_, q))) =
-    absurd (stops_or_whole x.given m x.ended other (stops_so (frame_of (request_of j)) x other s' q).1 (given_in j x m g) g.given_short)
-one_cause j x why other s s' (inr (inr (m, g, p))) (inr (inr (n, h, q))) =
-    one_fault j n why other s s' (subst (λ z. IsFaultIn j z why) (one_given j x m n g h) p) q
+pub one_cause : (v : ℕ) (j : JobTree) (x : Talk) (why other : Lost) → IsShown why → IsShown other → IsCauseOf v j x why → IsCauseOf v j x other → why ≡ other
+one_cause v j x why other s s' (inl (_, p)) (inl (_, q)) = unasked_is v j why s p ∙ sym (unasked_is v j other s' q)
+one_cause v j x why other s s' (inl (none, _)) (inr (inl (_, q))) = absurd (nothing_sent x (request_of v j) none (stops_so (frame_of (request_of v j)) x other s' q).0)
+one_cause v j x why other s s' (inl (none, _)) (inr (inr (m, g, _))) = absurd (nothing_sent x (request_of v j) none (sent_in v j x m g))
+one_cause v j x why other s s' (inr (inl (_, p))) (inl (none, _)) = absurd (nothing_sent x (request_of v j) none (stops_so (frame_of (request_of v j)) x why s p).0)
+one_cause v j x why other s s' (inr (inl (_, p))) (inr (inl (_, q))) =
+    one_stop x.given x.ended why other (stops_so (frame_of (request_of v j)) x why s p).1 (stops_so (frame_of (request_of v j)) x other s' q).1
+one_cause v j x why other s s' (inr (inl (_, p))) (inr (inr (m, g, _))) =
+    absurd (stops_or_whole x.given m x.ended why (stops_so (frame_of (request_of v j)) x why s p).1 (given_in v j x m g) g.given_short)
+one_cause v j x why other s s' (inr (inr (m, g, _))) (inl (none, _)) = absurd (nothing_sent x (request_of v j) none (sent_in v j x m g))
+one_cause v j x why other s s' (inr (inr (m, g, _))) (inr (inl (_, q))) =
+    absurd (stops_or_whole x.given m x.ended other (stops_so (frame_of (request_of v j)) x other s' q).1 (given_in v j x m g) g.given_short)
+one_cause v j x why other s s' (inr (inr (m, g, p))) (inr (inr (n, h, q))) =
+    one_fault v j n why other s s' (subst (λ z. IsFaultIn v j z why) (one_given v j x m n g h) p) q
 
-apart : (j : JobTree) (x : Talk) (t : Table) (why : Lost) → IsShown why → IsAnswered j x t → IsCauseOf j x why → ⊥
-apart j x t why s (m, g, table) (inl (none, _)) = nothing_sent x (request_of j) none (sent_in j x m g)
-apart j x t why s (m, g, table) (inr (inl (_, p))) = stops_or_whole x.given m x.ended why (stops_so (frame_of (request_of j)) x why s p).1 (given_in j x m g) g.given_short
-apart j x t why s (m, g, table) (inr (inr (n, h, fault))) = table_or_fault j m t why s table (subst (λ z. IsFaultIn j z why) (one_given j x n m h g) fault)
+apart : (v : ℕ) (j : JobTree) (x : Talk) (t : Table) (why : Lost) → IsShown why → IsAnswered v j x t → IsCauseOf v j x why → ⊥
+apart v j x t why s (m, g, table) (inl (none, _)) = nothing_sent x (request_of v j) none (sent_in v j x m g)
+apart v j x t why s (m, g, table) (inr (inl (_, p))) = stops_or_whole x.given m x.ended why (stops_so (frame_of (request_of v j)) x why s p).1 (given_in v j x m g) g.given_short
+apart v j x t why s (m, g, table) (inr (inr (n, h, fault))) = table_or_fault v j m t why s table (subst (λ z. IsFaultIn v j z why) (one_given v j x n m h g) fault)
 
-tables_are_one : (j : JobTree) (x : Talk) (t u : Table) → IsAnswered j x t → IsAnswered j x u → t ≡ u
-tables_are_one j x t u (m, g, (ds, spells, _)) (n, h, (es, spells', _)) =
-    let same = one_given j x m n g h in
-    one_table n j.ticket j.ticket j.kinds j.kinds t u ds es (subst (λ z. Spells z (reply j.ticket j.kinds t ds)) same spells) spells'
+tables_are_one : (v : ℕ) (j : JobTree) (x : Talk) (t u : Table) → IsAnswered v j x t → IsAnswered v j x u → t ≡ u
+tables_are_one v j x t u (m, g, (ds, spells, _)) (n, h, (es, spells', _)) =
+    let same = one_given v j x m n g h in
+    one_table v n j.ticket j.ticket j.kinds j.kinds t u ds es (subst (λ z. SpellsIn v z (reply j.ticket j.kinds t ds)) same spells) spells'
 
 pub one_outcome : OneOutcome
 one_outcome = record { one_cause = one_cause; apart = apart; one_table = tables_are_one }

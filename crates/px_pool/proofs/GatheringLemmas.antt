@@ -10,7 +10,9 @@ use Rattle.px_callgraph.specs.JobTree.{JobTree}
 use Rattle.px_callgraph.specs.Derivations.{Derives}
 use Rattle.px_check.specs.declared.checked.Checked.{Checked}
 use Rattle.px_check.specs.Answers.{entry_of, job_of}
-use Rattle.px_wire.specs.Messages.{MessageTree, reply, large, Spells, Replies}
+use Rattle.px_wire.specs.Messages.{MessageTree, reply, large}
+use Rattle.px_wire.specs.Versions.{SpellsIn}
+use Rattle.px_wire.proofs.MessageRoundTrips.{one_told}
 use Rattle.px_parts.specs.declared.part.Part.{Part}
 use Rattle.px_parts.specs.declared.part.Part.TheVariants as P
 use Rattle.px_parts.specs.Parts.{parts_of, IsReplying}
@@ -23,7 +25,7 @@ use Rattle.px_pool.specs.declared.gathering.Standing.{Standing}
 use Rattle.px_pool.specs.declared.gathering.Standing.TheVariants as S
 use Rattle.px_pool.specs.Derived.{AreDerived, FailsAt, FirstFails}
 use Rattle.px_pool.specs.Checks.{AreChecked, IsRefusal}
-use Rattle.px_pool.specs.Outcomes.{GivesTable, IsFaultIn}
+use Rattle.px_pool.specs.Outcomes.{NamesTicket, GivesTable, IsFaultIn}
 use Rattle.px_pool.specs.Gathering.{entry_in, entries_in, drop_in, drops_in, derivation_in, derivations_in, AreJudged, JudgesNext, IsGathered, IsOpen, IsLostBy, IsGatheredOn, IsStanding, Tells}
 use Rattle.px_pool.proofs.PartLists.{entries_more, drops_more, derivations_more, table_of, entries_before, more_derivations, sort_of, of_head, of_large, of_no_other, of_nothing}
 
@@ -32,31 +34,56 @@ pub none_is : {A : Type 0} (o : Option A) (P : Type 0) → ((x : A) → o ≡ So
 none_is (Some x) P other h = absurd (other x refl)
 none_is None P other h = h
 
+-- ---- the version
+
+-- a message, in the version that was asked for
+as_asked : (v own : ℕ) (bytes : List ℕ) (m n : MessageTree) → own ≡ v → m ≡ n → SpellsIn own bytes m → SpellsIn v bytes n
+as_asked v own bytes m n same is spells = subst (λ z. SpellsIn v bytes z) is (subst (λ w. SpellsIn w bytes m) same spells)
+
+-- a message in another names no ticket
+other_version : (v own : ℕ) (bytes : List ℕ) (m : MessageTree) → own ≢ v → SpellsIn own bytes m → (ticket : ℕ) → ¬ NamesTicket v bytes ticket
+other_version v own bytes m other spells ticket (inl (kinds, t, ds, s)) = other (one_told bytes own v m (reply ticket kinds t ds) spells s).0
+other_version v own bytes m other spells ticket (inr s) = other (one_told bytes own v m (large ticket) spells s).0
+
 -- ---- the first part
 
 module _ (j : JobTree) where
-  pub other_ticket : (number ticket : ℕ) (kinds : List ℕ) → ticket ≢ j.ticket → IsLostBy j (P.Head number ticket kinds ∷ []) (Ticket j.ticket ticket)
-  other_ticket number ticket kinds other bytes m others spells replying is =
-      let h = of_head m number ticket kinds others replying is in (refl, other, inl (kinds, h.0, h.1, subst (λ z. Spells bytes z) h.2 spells))
+  pub other_ticket : (v ticket : ℕ) (kinds : List ℕ) → ticket ≢ j.ticket → IsLostBy v j (P.Head v ticket kinds ∷ []) (Ticket j.ticket ticket)
+  other_ticket v ticket kinds other bytes own m others spells replying is =
+      let h = of_head own m v ticket kinds others replying is in
+      (refl, other, inl (kinds, h.0, h.1, as_asked v own bytes m (reply ticket kinds h.0 h.1) h.4 h.2 spells))
 
-  pub other_kinds : (number ticket : ℕ) (kinds : List ℕ) → ticket ≡ j.ticket → kinds ≢ j.kinds → IsLostBy j (P.Head number ticket kinds ∷ []) Kinds
-  other_kinds number ticket kinds same other bytes m others spells replying is =
-      let h = of_head m number ticket kinds others replying is in
-      (kinds, h.0, h.1, subst (λ n. Spells bytes (reply n kinds h.0 h.1)) same (subst (λ z. Spells bytes z) h.2 spells), other)
+  pub other_kinds : (v ticket : ℕ) (kinds : List ℕ) → ticket ≡ j.ticket → kinds ≢ j.kinds → IsLostBy v j (P.Head v ticket kinds ∷ []) Kinds
+  other_kinds v ticket kinds same other bytes own m others spells replying is =
+      let h = of_head own m v ticket kinds others replying is in
+      (kinds, h.0, h.1, subst (λ n. SpellsIn v bytes (reply n kinds h.0 h.1)) same (as_asked v own bytes m (reply ticket kinds h.0 h.1) h.4 h.2 spells), other)
 
-  pub large_of_other : (number ticket : ℕ) → ticket ≢ j.ticket → IsLostBy j (P.Large number ticket ∷ []) (Ticket j.ticket ticket)
-  large_of_other number ticket other bytes m others spells replying is = (refl, other, inr (subst (λ z. Spells bytes z) (of_large m number ticket others replying is) spells))
+  pub large_of_other : (v ticket : ℕ) → ticket ≢ j.ticket → IsLostBy v j (P.Large v ticket ∷ []) (Ticket j.ticket ticket)
+  large_of_other v ticket other bytes own m others spells replying is =
+      let h = of_large own m v ticket others replying is in (refl, other, inr (as_asked v own bytes m (large ticket) h.1 h.0 spells))
 
-  pub too_large : (number ticket : ℕ) → ticket ≡ j.ticket → IsLostBy j (P.Large number ticket ∷ []) Large
-  too_large number ticket same bytes m others spells replying is =
-      subst (λ n. Spells bytes (large n)) same (subst (λ z. Spells bytes z) (of_large m number ticket others replying is) spells)
+  pub too_large : (v ticket : ℕ) → ticket ≡ j.ticket → IsLostBy v j (P.Large v ticket ∷ []) Large
+  too_large v ticket same bytes own m others spells replying is =
+      let h = of_large own m v ticket others replying is in
+      subst (λ n. SpellsIn v bytes (large n)) same (as_asked v own bytes m (large ticket) h.1 h.0 spells)
 
-  pub no_first : (x : Part) → sort_of x ≡ 0 → IsLostBy j (x ∷ []) Frame
-  no_first x other bytes m others spells replying is = absurd (of_no_other m x others other replying is)
+  pub no_first : (v : ℕ) (x : Part) → sort_of x ≡ 0 → IsLostBy v j (x ∷ []) Frame
+  no_first v x other bytes own m others spells replying is = absurd (of_no_other own m x others other replying is)
 
-  pub opens : (number ticket : ℕ) (kinds : List ℕ) (g : Gathering) → ticket ≡ j.ticket → kinds ≡ j.kinds → IsGathered j [] [] [] g → IsOpen j (P.Head number ticket kinds ∷ []) g
-  opens number ticket kinds g same_ticket same_kinds gathered =
-      (number, [], ap (λ n. P.Head number n kinds ∷ []) same_ticket ∙ ap (λ l. P.Head number j.ticket l ∷ []) same_kinds, gathered)
+  -- a reply in another version
+  pub other_head : (v : ℕ) (x : Part) (number ticket : ℕ) (kinds : List ℕ) → x ≡ P.Head number ticket kinds → number ≢ v → IsLostBy v j (x ∷ []) Frame
+  other_head v x number ticket kinds first other bytes own m others spells replying is =
+      let h = of_head own m number ticket kinds others replying (is ∙ ap (λ y. y ∷ others) first) in
+      other_version v own bytes m (λ same. other (sym h.4 ∙ same)) spells
+
+  pub other_large : (v : ℕ) (x : Part) (number ticket : ℕ) → x ≡ P.Large number ticket → number ≢ v → IsLostBy v j (x ∷ []) Frame
+  other_large v x number ticket first other bytes own m others spells replying is =
+      let h = of_large own m number ticket others replying (is ∙ ap (λ y. y ∷ others) first) in
+      other_version v own bytes m (λ same. other (sym h.1 ∙ same)) spells
+
+  pub opens : (v ticket : ℕ) (kinds : List ℕ) (g : Gathering) → ticket ≡ j.ticket → kinds ≡ j.kinds → IsGathered j [] [] [] g → IsOpen v j (P.Head v ticket kinds ∷ []) g
+  opens v ticket kinds g same_ticket same_kinds gathered =
+      ([], ap (λ n. P.Head v n kinds ∷ []) same_ticket ∙ ap (λ l. P.Head v j.ticket l ∷ []) same_kinds, gathered)
 
   nothing_checked : AreChecked j [] [] []
   nothing_checked = record { entries = refl; jobs = tt; derived = refl }
@@ -65,33 +92,34 @@ module _ (j : JobTree) where
   nothing_gathered g none_pending none_checked none_dropped none_refused =
       (none_dropped, [], sym none_pending, subst (λ o. AreJudged j [] [] g.checked o) (sym none_refused) (subst (λ l. AreChecked j [] [] l) (sym none_checked) nothing_checked))
 
-  pub head_first : (x : Part) (number ticket : ℕ) (kinds : List ℕ) (s : Standing) → x ≡ P.Head number ticket kinds → ((n : ℕ) → IsStanding j (P.Head n ticket kinds ∷ []) s) → IsStanding j (x ∷ []) s
-  head_first x number ticket kinds s is h = subst (λ y. IsStanding j (y ∷ []) s) (sym is) (h number)
+  pub head_first : (v : ℕ) (x : Part) (number ticket : ℕ) (kinds : List ℕ) (s : Standing) → x ≡ P.Head number ticket kinds → number ≡ v → ((n : ℕ) → IsStanding n j (P.Head n ticket kinds ∷ []) s) →
+      IsStanding v j (x ∷ []) s
+  head_first v x number ticket kinds s is same h = subst (λ y. IsStanding v j (y ∷ []) s) (sym (is ∙ ap (λ n. P.Head n ticket kinds) same)) (h v)
 
-  pub large_first : (x : Part) (number ticket : ℕ) (s : Standing) → x ≡ P.Large number ticket → ((n : ℕ) → IsStanding j (P.Large n ticket ∷ []) s) → IsStanding j (x ∷ []) s
-  large_first x number ticket s is h = subst (λ y. IsStanding j (y ∷ []) s) (sym is) (h number)
+  pub large_first : (v : ℕ) (x : Part) (number ticket : ℕ) (s : Standing) → x ≡ P.Large number ticket → number ≡ v → ((n : ℕ) → IsStanding n j (P.Large n ticket ∷ []) s) → IsStanding v j (x ∷ []) s
+  large_first v x number ticket s is same h = subst (λ y. IsStanding v j (y ∷ []) s) (sym (is ∙ ap (λ n. P.Large n ticket) same)) (h v)
 
-  pub other_first : (x : Part) → ((number ticket : ℕ) (kinds : List ℕ) → x ≡ P.Head number ticket kinds → ⊥) → ((number ticket : ℕ) → x ≡ P.Large number ticket → ⊥) → IsLostBy j (x ∷ []) Frame
-  other_first P.Held no_head no_large = no_first P.Held refl
-  other_first (P.Head number ticket kinds) no_head no_large = absurd (no_head number ticket kinds refl)
-  other_first (P.Entry e) no_head no_large = no_first (P.Entry e) refl
-  other_first (P.Drop g) no_head no_large = no_first (P.Drop g) refl
-  other_first (P.Derivation d) no_head no_large = no_first (P.Derivation d) refl
-  other_first (P.Large number ticket) no_head no_large = absurd (no_large number ticket refl)
-  other_first P.End no_head no_large = no_first P.End refl
+  pub other_first : (v : ℕ) (x : Part) → ((number ticket : ℕ) (kinds : List ℕ) → x ≡ P.Head number ticket kinds → ⊥) → ((number ticket : ℕ) → x ≡ P.Large number ticket → ⊥) → IsLostBy v j (x ∷ []) Frame
+  other_first v P.Held no_head no_large = no_first v P.Held refl
+  other_first v (P.Head number ticket kinds) no_head no_large = absurd (no_head number ticket kinds refl)
+  other_first v (P.Entry e) no_head no_large = no_first v (P.Entry e) refl
+  other_first v (P.Drop g) no_head no_large = no_first v (P.Drop g) refl
+  other_first v (P.Derivation d) no_head no_large = no_first v (P.Derivation d) refl
+  other_first v (P.Large number ticket) no_head no_large = absurd (no_large number ticket refl)
+  other_first v P.End no_head no_large = no_first v P.End refl
 
   -- ---- one part more
 
-  lost_still : (parts : List Part) (x : Part) (why : Lost) → IsLostBy j parts why → IsLostBy j (parts ++ x ∷ []) why
-  lost_still parts x why lost bytes m others spells replying is = lost bytes m (x ∷ others) spells replying (is ∙ append_assoc parts (x ∷ []) others)
+  lost_still : (v : ℕ) (parts : List Part) (x : Part) (why : Lost) → IsLostBy v j parts why → IsLostBy v j (parts ++ x ∷ []) why
+  lost_still v parts x why lost bytes own m others spells replying is = lost bytes own m (x ∷ others) spells replying (is ∙ append_assoc parts (x ∷ []) others)
 
-  pub out_of_memory : (parts : List Part) → IsLostBy j parts NoMemory
-  out_of_memory parts bytes m others spells replying is = tt
+  pub out_of_memory : (v : ℕ) (parts : List Part) → IsLostBy v j parts NoMemory
+  out_of_memory v parts bytes own m others spells replying is = tt
 
-  pub open_still : (parts : List Part) (x : Part) (g h : Gathering) →
+  pub open_still : (v : ℕ) (parts : List Part) (x : Part) (g h : Gathering) →
       ((es : List Entry) (gs : List Gap) (ds : List Derivation) → IsGathered j es gs ds g → IsGathered j (es ++ entry_in x) (gs ++ drop_in x) (ds ++ derivation_in x) h) →
-      IsOpen j parts g → IsOpen j (parts ++ x ∷ []) h
-  open_still parts x g h keeps (number, tail, is, gathered) =
+      IsOpen v j parts g → IsOpen v j (parts ++ x ∷ []) h
+  open_still v parts x g h keeps (tail, is, gathered) =
       let e = entries_more tail x in
       let d = drops_more tail x in
       let s = derivations_more tail x in
@@ -99,19 +127,19 @@ module _ (j : JobTree) where
       let second = subst (λ l. IsGathered j l (drops_in tail ++ drop_in x) (derivations_in tail ++ derivation_in x) h) (sym e) first in
       let third = subst (λ l. IsGathered j (entries_in (tail ++ x ∷ [])) l (derivations_in tail ++ derivation_in x) h) (sym d) second in
       let fourth = subst (λ l. IsGathered j (entries_in (tail ++ x ∷ [])) (drops_in (tail ++ x ∷ [])) l h) (sym s) third in
-      (number, tail ++ x ∷ [], ap (λ l. l ++ x ∷ []) is, fourth)
+      (tail ++ x ∷ [], ap (λ l. l ++ x ∷ []) is, fourth)
 
-  pub begun : (parts : List Part) (x : Part) (s next : Standing) → s ≡ S.Unbegun → IsStanding j parts s → IsStanding j (x ∷ []) next → IsStanding j (parts ++ x ∷ []) next
-  begun parts x s next is standing first =
-      let none : parts ≡ [] = subst (λ z. IsStanding j parts z) is standing in
-      subst (λ l. IsStanding j (l ++ x ∷ []) next) (sym none) first
+  pub begun : (v : ℕ) (parts : List Part) (x : Part) (s next : Standing) → s ≡ S.Unbegun → IsStanding v j parts s → IsStanding v j (x ∷ []) next → IsStanding v j (parts ++ x ∷ []) next
+  begun v parts x s next is standing first =
+      let none : parts ≡ [] = subst (λ z. IsStanding v j parts z) is standing in
+      subst (λ l. IsStanding v j (l ++ x ∷ []) next) (sym none) first
 
-  pub goes_on : (parts : List Part) (x : Part) (s next : Standing) (g : Gathering) → s ≡ S.Open g → IsStanding j parts s →
-      ((l : List Part) → IsOpen j l g → IsStanding j (l ++ x ∷ []) next) → IsStanding j (parts ++ x ∷ []) next
-  goes_on parts x s next g is standing gathers = gathers parts (subst (λ z. IsStanding j parts z) is standing)
+  pub goes_on : (v : ℕ) (parts : List Part) (x : Part) (s next : Standing) (g : Gathering) → s ≡ S.Open g → IsStanding v j parts s →
+      ((l : List Part) → IsOpen v j l g → IsStanding v j (l ++ x ∷ []) next) → IsStanding v j (parts ++ x ∷ []) next
+  goes_on v parts x s next g is standing gathers = gathers parts (subst (λ z. IsStanding v j parts z) is standing)
 
-  pub lost_on : (parts : List Part) (x : Part) (s : Standing) (why : Lost) → s ≡ S.Lost why → IsStanding j parts s → IsLostBy j (parts ++ x ∷ []) why
-  lost_on parts x s why is standing = lost_still parts x why (subst (λ z. IsStanding j parts z) is standing)
+  pub lost_on : (v : ℕ) (parts : List Part) (x : Part) (s : Standing) (why : Lost) → s ≡ S.Lost why → IsStanding v j parts s → IsLostBy v j (parts ++ x ∷ []) why
+  lost_on v parts x s why is standing = lost_still v parts x why (subst (λ z. IsStanding v j parts z) is standing)
 
   -- where nothing is an entry, a drop or a derivation
   gathered_still : (es : List Entry) (gs : List Gap) (ds : List Derivation) (g : Gathering) → IsGathered j es gs ds g → IsGathered j (es ++ []) (gs ++ []) (ds ++ []) g
@@ -237,35 +265,35 @@ module _ (j : JobTree) where
   -- ---- what the message gives
 
   -- more derivations than entries
-  pub too_many : (parts : List Part) (g : Gathering) (d : Derivation) → g.pending.items ≡ [] → IsOpen j parts g → IsLostBy j (parts ++ P.Derivation d ∷ []) (Refused 0 0)
-  too_many parts g d none (number, tail, first, (dropped, done, are, judged)) bytes m others spells replying is =
-      let all : parts_of m ≡ P.Head number j.ticket j.kinds ∷ (tail ++ P.Derivation d ∷ others) =
+  pub too_many : (v : ℕ) (parts : List Part) (g : Gathering) (d : Derivation) → g.pending.items ≡ [] → IsOpen v j parts g → IsLostBy v j (parts ++ P.Derivation d ∷ []) (Refused 0 0)
+  too_many v parts g d none (tail, first, (dropped, done, are, judged)) bytes own m others spells replying is =
+      let all : parts_of own m ≡ P.Head v j.ticket j.kinds ∷ (tail ++ P.Derivation d ∷ others) =
       is ∙ append_assoc parts (P.Derivation d ∷ []) others ∙ ap (λ l. l ++ P.Derivation d ∷ others) first in
-      let h = of_head m number j.ticket j.kinds (tail ++ P.Derivation d ∷ others) replying all in
+      let h = of_head own m v j.ticket j.kinds (tail ++ P.Derivation d ∷ others) replying all in
       let entries : entries_in tail ≡ h.0.entries = entries_before h.0 h.1 tail others d h.3 in
       let more = more_derivations h.0 h.1 tail others d h.3 in
       let done_is : entries_in tail ≡ done = are ∙ ap (λ l. done ++ l) none ∙ append-nil done in
       let many : length (derivations_in tail) ≡ length done = judged_many done (derivations_in tail) g.checked g.refused judged in
       let as_many : length done ≡ length h.0.entries = ap length (sym done_is ∙ entries) in
-      (h.0, h.1, subst (λ z. Spells bytes z) h.2 spells, inl (λ same. omega (arith, same, more, many, as_many), refl, refl))
+      (h.0, h.1, as_asked v own bytes m (reply j.ticket j.kinds h.0 h.1) h.4 h.2 spells, inl (λ same. omega (arith, same, more, many, as_many), refl, refl))
 
-  record IsClosed (bytes : List ℕ) (g : Gathering) : Type 0 where
+  record IsClosed (v : ℕ) (bytes : List ℕ) (g : Gathering) : Type 0 where
     table : Table
     ds : List Derivation
-    spells : Replies bytes j.ticket j.kinds table ds
+    spells : SpellsIn v bytes (reply j.ticket j.kinds table ds)
     drops : g.drops ≡ table.drops
     done : List Entry
     entries : done ++ g.pending.items ≡ table.entries
     judged : AreJudged j done ds g.checked g.refused
 
-  closes : (parts : List Part) (bytes : List ℕ) (m : MessageTree) (g : Gathering) → IsOpen j parts g → Spells bytes m → IsReplying m → parts_of m ≡ parts → IsClosed bytes g
-  closes parts bytes m g (number, tail, first, (dropped, done, are, judged)) spells replying is =
-      let h = of_head m number j.ticket j.kinds tail replying (is ∙ first) in
+  closes : (v : ℕ) (parts : List Part) (bytes : List ℕ) (own : ℕ) (m : MessageTree) (g : Gathering) → IsOpen v j parts g → SpellsIn own bytes m → IsReplying m → parts_of own m ≡ parts → IsClosed v bytes g
+  closes v parts bytes own m g (tail, first, (dropped, done, are, judged)) spells replying is =
+      let h = of_head own m v j.ticket j.kinds tail replying (is ∙ first) in
       let t = table_of h.0 h.1 tail h.3 in
       record {
         table = h.0;
         ds = h.1;
-        spells = subst (λ z. Spells bytes z) h.2 spells;
+        spells = as_asked v own bytes m (reply j.ticket j.kinds h.0 h.1) h.4 h.2 spells;
         drops = dropped ∙ t.drops;
         done = done;
         entries = sym are ∙ t.entries;
@@ -276,35 +304,35 @@ module _ (j : JobTree) where
   some_left [] some = absurd (some refl)
   some_left (x ∷ l) some = omega arith
 
-  pub too_few : (parts : List Part) (bytes : List ℕ) (m : MessageTree) (g : Gathering) → g.pending.items ≢ [] → IsOpen j parts g → Spells bytes m → IsReplying m → parts_of m ≡ parts →
-      IsFaultIn j bytes (Refused 0 0)
-  too_few parts bytes m g some opened spells replying is =
-      let c = closes parts bytes m g opened spells replying is in
+  pub too_few : (v : ℕ) (parts : List Part) (bytes : List ℕ) (own : ℕ) (m : MessageTree) (g : Gathering) → g.pending.items ≢ [] → IsOpen v j parts g → SpellsIn own bytes m → IsReplying m →
+      parts_of own m ≡ parts → IsFaultIn v j bytes (Refused 0 0)
+  too_few v parts bytes own m g some opened spells replying is =
+      let c = closes v parts bytes own m g opened spells replying is in
       let many : length c.ds ≡ length c.done = judged_many c.done c.ds g.checked g.refused c.judged in
       let all : length c.done + length g.pending.items ≡ length c.table.entries = sym (length-append c.done g.pending.items) ∙ ap length c.entries in
       let left = some_left g.pending.items some in
       (c.table, c.ds, c.spells, inl (λ same. omega (arith, same, many, all, left), refl, refl))
 
-  all_done : (bytes : List ℕ) (g : Gathering) (c : IsClosed bytes g) → g.pending.items ≡ [] → c.done ≡ c.table.entries
-  all_done bytes g c none = sym (append-nil c.done) ∙ ap (λ l. c.done ++ l) (sym none) ∙ c.entries
+  all_done : (v : ℕ) (bytes : List ℕ) (g : Gathering) (c : IsClosed v bytes g) → g.pending.items ≡ [] → c.done ≡ c.table.entries
+  all_done v bytes g c none = sym (append-nil c.done) ∙ ap (λ l. c.done ++ l) (sym none) ∙ c.entries
 
-  pub first_refused : (parts : List Part) (bytes : List ℕ) (m : MessageTree) (g : Gathering) (r : Refusal) → g.pending.items ≡ [] → g.refused ≡ Some r → IsOpen j parts g → Spells bytes m → IsReplying m →
-      parts_of m ≡ parts → IsFaultIn j bytes (Refused r.entry r.step)
-  first_refused parts bytes m g r none refused opened spells replying is =
-      let c = closes parts bytes m g opened spells replying is in
+  pub first_refused : (v : ℕ) (parts : List Part) (bytes : List ℕ) (own : ℕ) (m : MessageTree) (g : Gathering) (r : Refusal) → g.pending.items ≡ [] → g.refused ≡ Some r → IsOpen v j parts g →
+      SpellsIn own bytes m → IsReplying m → parts_of own m ≡ parts → IsFaultIn v j bytes (Refused r.entry r.step)
+  first_refused v parts bytes own m g r none refused opened spells replying is =
+      let c = closes v parts bytes own m g opened spells replying is in
       let judged = subst (λ o. AreJudged j c.done c.ds g.checked o) refused c.judged in
-      let same = all_done bytes g c none in
+      let same = all_done v bytes g c none in
       (c.table, c.ds, c.spells, inr (judged.0 ∙ ap length same, subst (λ l. FirstFails j l c.ds r.entry r.step) same judged.1))
 
-  pub tells_nothing : (parts : List Part) (s : Standing) → s ≡ S.Unbegun → IsStanding j parts s → Tells j parts (Err Frame)
-  tells_nothing parts s is standing bytes m spells replying are =
-      let none : parts ≡ [] = subst (λ z. IsStanding j parts z) is standing in
-      absurd (of_nothing m replying (are ∙ none))
+  pub tells_nothing : (v : ℕ) (parts : List Part) (s : Standing) → s ≡ S.Unbegun → IsStanding v j parts s → Tells v j parts (Err Frame)
+  tells_nothing v parts s is standing bytes own m spells replying are =
+      let none : parts ≡ [] = subst (λ z. IsStanding v j parts z) is standing in
+      absurd (of_nothing own m replying (are ∙ none))
 
-  pub tells_fault : (parts : List Part) (s : Standing) (why : Lost) → s ≡ S.Lost why → IsStanding j parts s → Tells j parts (Err why)
-  tells_fault parts s why is standing bytes m spells replying are =
-      let lost : IsLostBy j parts why = subst (λ z. IsStanding j parts z) is standing in
-      lost bytes m [] spells replying (are ∙ sym (append-nil parts))
+  pub tells_fault : (v : ℕ) (parts : List Part) (s : Standing) (why : Lost) → s ≡ S.Lost why → IsStanding v j parts s → Tells v j parts (Err why)
+  tells_fault v parts s why is standing bytes own m spells replying are =
+      let lost : IsLostBy v j parts why = subst (λ z. IsStanding v j parts z) is standing in
+      lost bytes own m [] spells replying (are ∙ sym (append-nil parts))
 
   abbrev table_with : List Entry → List Gap → Table
   table_with entries drops = record { entries = entries; drops = drops }
@@ -312,12 +340,12 @@ module _ (j : JobTree) where
   same_table : (t u : Table) → t.entries ≡ u.entries → t.drops ≡ u.drops → t ≡ u
   same_table t u entries drops = ap (λ l. table_with l t.drops) entries ∙ ap (λ l. table_with u.entries l) drops
 
-  pub gives : (parts : List Part) (bytes : List ℕ) (m : MessageTree) (g : Gathering) → g.pending.items ≡ [] → g.refused ≡ None → IsOpen j parts g → Spells bytes m → IsReplying m →
-      parts_of m ≡ parts → AreOf j g.checked × GivesTable j bytes (table_from g.checked g.drops)
-  gives parts bytes m g none unrefused opened spells replying is =
-      let c = closes parts bytes m g opened spells replying is in
+  pub gives : (v : ℕ) (parts : List Part) (bytes : List ℕ) (own : ℕ) (m : MessageTree) (g : Gathering) → g.pending.items ≡ [] → g.refused ≡ None → IsOpen v j parts g → SpellsIn own bytes m →
+      IsReplying m → parts_of own m ≡ parts → AreOf j g.checked × GivesTable v j bytes (table_from g.checked g.drops)
+  gives v parts bytes own m g none unrefused opened spells replying is =
+      let c = closes v parts bytes own m g opened spells replying is in
       let checked : AreChecked j c.done c.ds g.checked = subst (λ o. AreJudged j c.done c.ds g.checked o) unrefused c.judged in
       let t : Table = table_from g.checked g.drops in
-      let entries : map entry_of g.checked ≡ c.table.entries = checked.entries ∙ all_done bytes g c none in
+      let entries : map entry_of g.checked ≡ c.table.entries = checked.entries ∙ all_done v bytes g c none in
       let same : c.table ≡ t = sym (same_table t c.table entries c.drops) in
-      (checked.jobs, (c.ds, subst (λ z. Replies bytes j.ticket j.kinds z c.ds) same c.spells, subst (λ l. AreDerived j l c.ds) (sym checked.entries) checked.derived))
+      (checked.jobs, (c.ds, subst (λ z. SpellsIn v bytes (reply j.ticket j.kinds z c.ds)) same c.spells, subst (λ l. AreDerived j l c.ds) (sym checked.entries) checked.derived))

@@ -10,7 +10,6 @@ pub mod RefusalLemmas
 pub mod FaultLemmas
 pub mod CauseLemmas
 pub mod ExchangeLemmas
-pub mod RequestLemmas
 pub mod PartLists
 pub mod GatheringLemmas
 pub mod FeedingLemmas

@@ -91,8 +91,8 @@ exchanges_keep_step (Some a) (Some b) asked given step short short' p =
     subst (λ t. IsInStep (Some t) × ArePaired (Some t) asked given) (sym p) (step_of a asked given step short short')
 
 pub words_are_of_pairs : (says : JobTree → Table → Type 0) → WordsAreOfPairs says
-words_are_of_pairs says None asked given j t ds kept paired s r = kept j t
-words_are_of_pairs says (Some talk) asked given j t ds kept (n, sent, gave) s r = kept n asked given j t ds sent gave s r
+words_are_of_pairs says None asked given v j t ds kept paired s r = kept j t
+words_are_of_pairs says (Some talk) asked given v j t ds kept (n, sent, gave) s r = kept n asked given v j t ds sent gave s r
 
 pub new_in_step : NewLinksAreInStep
 new_in_step None fresh = tt

@@ -157,6 +157,15 @@ ticket_of (P.Derivation d) = 0
 ticket_of (P.Large number ticket) = ticket
 ticket_of P.End = 0
 
+abbrev number_of : Part → ℕ
+number_of P.Held = 0
+number_of (P.Head number ticket kinds) = number
+number_of (P.Entry e) = 0
+number_of (P.Drop g) = 0
+number_of (P.Derivation d) = 0
+number_of (P.Large number ticket) = number
+number_of P.End = 0
+
 abbrev kinds_of : Part → List ℕ
 kinds_of P.Held = []
 kinds_of (P.Head number ticket kinds) = kinds
@@ -166,31 +175,31 @@ kinds_of (P.Derivation d) = []
 kinds_of (P.Large number ticket) = []
 kinds_of P.End = []
 
-pub of_head : (m : MessageTree) (number ticket : ℕ) (kinds : List ℕ) (tail : List Part) → IsReplying m → parts_of m ≡ P.Head number ticket kinds ∷ tail →
-    (t : Table) × (ds : List Derivation) × (m ≡ reply ticket kinds t ds) × (table_parts t ds ≡ tail)
-of_head (request j) number ticket kinds tail replying is = absurd replying
-of_head (reply ticket' kinds' t ds) number ticket kinds tail replying is =
+pub of_head : (own : ℕ) (m : MessageTree) (number ticket : ℕ) (kinds : List ℕ) (tail : List Part) → IsReplying m → parts_of own m ≡ P.Head number ticket kinds ∷ tail →
+    (t : Table) × (ds : List Derivation) × (m ≡ reply ticket kinds t ds) × (table_parts t ds ≡ tail) × (own ≡ number)
+of_head own (request j) number ticket kinds tail replying is = absurd replying
+of_head own (reply ticket' kinds' t ds) number ticket kinds tail replying is =
     let same_ticket : ticket' ≡ ticket = ap (λ l. ticket_of (first_or P.Held l)) is in
     let same_kinds : kinds' ≡ kinds = ap (λ l. kinds_of (first_or P.Held l)) is in
-    (t, ds, ap (λ n. reply n kinds' t ds) same_ticket ∙ ap (λ l. reply ticket l t ds) same_kinds, ap behind_first is)
-of_head (large ticket') number ticket kinds tail replying is =
+    (t, ds, ap (λ n. reply n kinds' t ds) same_ticket ∙ ap (λ l. reply ticket l t ds) same_kinds, ap behind_first is, ap (λ l. number_of (first_or P.Held l)) is)
+of_head own (large ticket') number ticket kinds tail replying is =
     let clash : 2 ≡ 1 = ap (λ l. sort_of (first_or P.Held l)) is in absurd (omega (arith, clash))
 
-pub of_large : (m : MessageTree) (number ticket : ℕ) (tail : List Part) → IsReplying m → parts_of m ≡ P.Large number ticket ∷ tail → m ≡ large ticket
-of_large (request j) number ticket tail replying is = absurd replying
-of_large (reply ticket' kinds' t ds) number ticket tail replying is =
+pub of_large : (own : ℕ) (m : MessageTree) (number ticket : ℕ) (tail : List Part) → IsReplying m → parts_of own m ≡ P.Large number ticket ∷ tail → (m ≡ large ticket) × (own ≡ number)
+of_large own (request j) number ticket tail replying is = absurd replying
+of_large own (reply ticket' kinds' t ds) number ticket tail replying is =
     let clash : 1 ≡ 2 = ap (λ l. sort_of (first_or P.Held l)) is in absurd (omega (arith, clash))
-of_large (large ticket') number ticket tail replying is = ap large (ap (λ l. ticket_of (first_or P.Held l)) is)
+of_large own (large ticket') number ticket tail replying is = (ap large (ap (λ l. ticket_of (first_or P.Held l)) is), ap (λ l. number_of (first_or P.Held l)) is)
 
 -- a message begins with no other part
-pub of_no_other : (m : MessageTree) (x : Part) (tail : List Part) → sort_of x ≡ 0 → IsReplying m → parts_of m ≡ x ∷ tail → ⊥
-of_no_other (request j) x tail other replying is = replying
-of_no_other (reply ticket kinds t ds) x tail other replying is =
+pub of_no_other : (own : ℕ) (m : MessageTree) (x : Part) (tail : List Part) → sort_of x ≡ 0 → IsReplying m → parts_of own m ≡ x ∷ tail → ⊥
+of_no_other own (request j) x tail other replying is = replying
+of_no_other own (reply ticket kinds t ds) x tail other replying is =
     let clash : 1 ≡ sort_of x = ap (λ l. sort_of (first_or x l)) is in omega (arith, clash, other)
-of_no_other (large ticket) x tail other replying is =
+of_no_other own (large ticket) x tail other replying is =
     let clash : 2 ≡ sort_of x = ap (λ l. sort_of (first_or x l)) is in omega (arith, clash, other)
 
-pub of_nothing : (m : MessageTree) → IsReplying m → parts_of m ≡ [] → ⊥
-of_nothing (request j) replying is = replying
-of_nothing (reply ticket kinds t ds) replying is = let clash : 1 ≡ 0 = ap (λ l. sort_of (first_or P.Held l)) is in omega (arith, clash)
-of_nothing (large ticket) replying is = let clash : 2 ≡ 0 = ap (λ l. sort_of (first_or P.Held l)) is in omega (arith, clash)
+pub of_nothing : (own : ℕ) (m : MessageTree) → IsReplying m → parts_of own m ≡ [] → ⊥
+of_nothing own (request j) replying is = replying
+of_nothing own (reply ticket kinds t ds) replying is = let clash : 1 ≡ 0 = ap (λ l. sort_of (first_or P.Held l)) is in omega (arith, clash)
+of_nothing own (large ticket) replying is = let clash : 2 ≡ 0 = ap (λ l. sort_of (first_or P.Held l)) is in omega (arith, clash)

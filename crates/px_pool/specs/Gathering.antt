@@ -5,7 +5,8 @@ use Rattle.px_entry.specs.declared.entries.Entry.{Entry}
 use Rattle.px_entry.specs.declared.tables.Gap.{Gap}
 use Rattle.px_callgraph.specs.JobTree.{JobTree}
 use Rattle.px_check.specs.declared.checked.Checked.{Checked}
-use Rattle.px_wire.specs.Messages.{MessageTree, Spells}
+use Rattle.px_wire.specs.Messages.{MessageTree}
+use Rattle.px_wire.specs.Versions.{SpellsIn}
 use Rattle.px_parts.specs.declared.part.Part.{Part}
 use Rattle.px_parts.specs.declared.part.Part.TheVariants as P
 use Rattle.px_parts.specs.Parts.{parts_of, IsReplying}
@@ -83,35 +84,35 @@ JudgesNext j all o x d new r = (done : List Entry) (ds : List Derivation) → Ar
 abbrev pub IsGathered : JobTree → List Entry → List Gap → List Derivation → Gathering → Type 0
 IsGathered j es gs ds g = (g.drops ≡ gs) × (done : List Entry) × (es ≡ done ++ g.pending.items) × AreJudged j done ds g.checked g.refused
 
--- these parts are a reply to the job, as far as they go
-abbrev pub IsOpen : JobTree → List Part → Gathering → Type 0
-IsOpen j parts g = (number : ℕ) × (tail : List Part) × (parts ≡ P.Head number j.ticket j.kinds ∷ tail) × IsGathered j (entries_in tail) (drops_in tail) (derivations_in tail) g
+-- these parts are a reply to the job in a version, as far as they go
+abbrev pub IsOpen : ℕ → JobTree → List Part → Gathering → Type 0
+IsOpen v j parts g = (tail : List Part) × (parts ≡ P.Head v j.ticket j.kinds ∷ tail) × IsGathered j (entries_in tail) (drops_in tail) (derivations_in tail) g
 
--- each message that begins with these parts has this fault
-abbrev pub IsLostBy : JobTree → List Part → Lost → Type 0
-IsLostBy j parts why = (bytes : List ℕ) (m : MessageTree) (others : List Part) → Spells bytes m → IsReplying m → parts_of m ≡ parts ++ others → IsFaultIn j bytes why
+-- each message in whatever version that begins with these parts has this fault, where it was asked for in this one
+abbrev pub IsLostBy : ℕ → JobTree → List Part → Lost → Type 0
+IsLostBy v j parts why = (bytes : List ℕ) (own : ℕ) (m : MessageTree) (others : List Part) → SpellsIn own bytes m → IsReplying m → parts_of own m ≡ parts ++ others → IsFaultIn v j bytes why
 
 -- what one part more gave: it is gathered too, or no message that goes on with it gives a table
 abbrev pub IsGatheredOn : JobTree → Gathering → Part → Result Gathering Lost → Type 0
 IsGatheredOn j g x (Ok h) = (es : List Entry) (gs : List Gap) (ds : List Derivation) → IsGathered j es gs ds g → IsGathered j (es ++ entry_in x) (gs ++ drop_in x) (ds ++ derivation_in x) h
-IsGatheredOn j g x (Err why) = (parts : List Part) → IsOpen j parts g → IsLostBy j (parts ++ x ∷ []) why
+IsGatheredOn j g x (Err why) = (v : ℕ) (parts : List Part) → IsOpen v j parts g → IsLostBy v j (parts ++ x ∷ []) why
 
 -- this is known of a reply that begins with these parts
-abbrev pub IsStanding : JobTree → List Part → Standing → Type 0
-IsStanding j parts S.Unbegun = parts ≡ []
-IsStanding j parts (S.Open g) = IsOpen j parts g
-IsStanding j parts (S.Lost why) = IsLostBy j parts why
+abbrev pub IsStanding : ℕ → JobTree → List Part → Standing → Type 0
+IsStanding v j parts S.Unbegun = parts ≡ []
+IsStanding v j parts (S.Open g) = IsOpen v j parts g
+IsStanding v j parts (S.Lost why) = IsLostBy v j parts why
 
 -- ---- what a message gives
 
--- this is what a message gives
-abbrev pub IsOutcome : JobTree → List ℕ → Result Answer Lost → Type 0
-IsOutcome j bytes (Ok a) = AreOf j a.entries × GivesTable j bytes (table_from a.entries a.drops)
-IsOutcome j bytes (Err why) = IsFaultIn j bytes why
+-- this is what a message gives that was asked for in a version
+abbrev pub IsOutcome : ℕ → JobTree → List ℕ → Result Answer Lost → Type 0
+IsOutcome v j bytes (Ok a) = AreOf j a.entries × GivesTable v j bytes (table_from a.entries a.drops)
+IsOutcome v j bytes (Err why) = IsFaultIn v j bytes why
 
 -- each message of these parts gives this
-abbrev pub Tells : JobTree → List Part → Result Answer Lost → Type 0
-Tells j parts answer = (bytes : List ℕ) (m : MessageTree) → Spells bytes m → IsReplying m → parts_of m ≡ parts → IsOutcome j bytes answer
+abbrev pub Tells : ℕ → JobTree → List Part → Result Answer Lost → Type 0
+Tells v j parts answer = (bytes : List ℕ) (own : ℕ) (m : MessageTree) → SpellsIn own bytes m → IsReplying m → parts_of own m ≡ parts → IsOutcome v j bytes answer
 
 -- a part that was taken is the end, or none, or one more
 abbrev pub IsTurn : Part → Turn → Type 0
@@ -120,12 +121,12 @@ IsTurn x (T.Ended s) = x ≡ P.End
 IsTurn x (T.More s) = IsWhole x
 
 -- what is known of the parts so far, and of this one if it is one more
-abbrev pub StandsAfter : JobTree → List Part → Part → Turn → Type 0
-StandsAfter j parts x (T.Held s) = IsStanding j parts s
-StandsAfter j parts x (T.Ended s) = IsStanding j parts s
-StandsAfter j parts x (T.More s) = IsStanding j (parts ++ x ∷ []) s
+abbrev pub StandsAfter : ℕ → JobTree → List Part → Part → Turn → Type 0
+StandsAfter v j parts x (T.Held s) = IsStanding v j parts s
+StandsAfter v j parts x (T.Ended s) = IsStanding v j parts s
+StandsAfter v j parts x (T.More s) = IsStanding v j (parts ++ x ∷ []) s
 
 -- After these bytes of a message, where so many more come: more parts are wanted; or, however they are, the outcome is this.
-abbrev pub IsFed : JobTree → List ℕ → ℕ → Waiting → Fed → Type 0
-IsFed j bytes left w (F.Open s) = (0 < left) × (parts : List Part) × HasGiven bytes left parts w × IsStanding j parts s
-IsFed j bytes left w (F.Done answer) = (more : List ℕ) → length more ≡ left → IsOutcome j (bytes ++ more) answer
+abbrev pub IsFed : ℕ → JobTree → List ℕ → ℕ → Waiting → Fed → Type 0
+IsFed v j bytes left w (F.Open s) = (0 < left) × (parts : List Part) × HasGiven bytes left parts w × IsStanding v j parts s
+IsFed v j bytes left w (F.Done answer) = (more : List ℕ) → length more ≡ left → IsOutcome v j (bytes ++ more) answer

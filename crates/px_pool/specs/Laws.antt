@@ -21,15 +21,15 @@ IsShown Kinds = ⊤
 IsShown (Refused entry step) = ⊤
 IsShown Large = ⊤
 
--- What passed shows one cause at most, and none where it gives a table; and it gives one table at most.
+-- In a version what passed shows one cause at most, and none where it gives a table; and it gives one table at most.
 pub record OneOutcome : Type 0 where
-  pub one_cause : (j : JobTree) (x : Talk) (why other : Lost) → IsShown why → IsShown other → IsCauseOf j x why → IsCauseOf j x other → why ≡ other
-  pub apart : (j : JobTree) (x : Talk) (t : Table) (why : Lost) → IsShown why → IsAnswered j x t → IsCauseOf j x why → ⊥
-  pub one_table : (j : JobTree) (x : Talk) (t u : Table) → IsAnswered j x t → IsAnswered j x u → t ≡ u
+  pub one_cause : (v : ℕ) (j : JobTree) (x : Talk) (why other : Lost) → IsShown why → IsShown other → IsCauseOf v j x why → IsCauseOf v j x other → why ≡ other
+  pub apart : (v : ℕ) (j : JobTree) (x : Talk) (t : Table) (why : Lost) → IsShown why → IsAnswered v j x t → IsCauseOf v j x why → ⊥
+  pub one_table : (v : ℕ) (j : JobTree) (x : Talk) (t u : Table) → IsAnswered v j x t → IsAnswered v j x u → t ≡ u
 
 -- Where a link is in step, and what passes over it gives a table, it has given exactly one whole frame more; so one more at least.
 pub record AnswersAreOneFrame : Type 0 where
-  pub exactly : (j : JobTree) (old new x : Talk) (t : Table) (n : ℕ) → IsInStep (Some old) → Passes (Some old) (Some new) x → IsAnswered j x t →
+  pub exactly : (v : ℕ) (j : JobTree) (old new x : Talk) (t : Table) (n : ℕ) → IsInStep (Some old) → Passes (Some old) (Some new) x → IsAnswered v j x t →
       HasFrames old.given n → HasFrames new.given (n + 1)
-  pub at_least : (j : JobTree) (old new : Option Talk) (x : Talk) (t : Table) (n : ℕ) → IsInStep old → Passes old new x → IsAnswered j x t →
+  pub at_least : (v : ℕ) (j : JobTree) (old new : Option Talk) (x : Talk) (t : Table) (n : ℕ) → IsInStep old → Passes old new x → IsAnswered v j x t →
       GaveFrames old n → GaveFrames new (n + 1)

@@ -4,7 +4,8 @@ use Rattle.px_entry.specs.declared.tables.Table.{Table}
 use Rattle.px_entry.specs.declared.derivations.Derivation.{Derivation}
 use Rattle.px_callgraph.specs.JobTree.{JobTree}
 use Rattle.px_frames.specs.Frames.{frame_of, most_bytes}
-use Rattle.px_wire.specs.Messages.{Asks, Replies}
+use Rattle.px_wire.specs.Messages.{request, reply}
+use Rattle.px_wire.specs.Versions.{SpellsIn}
 use Rattle.px_pool.specs.Talks.{Talk, Passes, IsFresh, nothing, followed_by}
 use Rattle.px_pool.specs.Words.{IsFrameAt, IsWordKept, IsInStep}
 use Rattle.px_pool.specs.Starts.{HasFrames, GaveFrames}
@@ -33,10 +34,10 @@ abbrev pub ExchangesKeepStep : Type 0
 ExchangesKeepStep = (old new : Option Talk) (asked given : List ℕ) → IsInStep old → length asked ≤ most_bytes → length given ≤ most_bytes →
     Passes old new (exchanges asked given) → IsInStep new × ArePaired new asked given
 
--- a word that is kept holds of the job and the table in two frames that have the same place
+-- a word that is kept holds of the job and the table in two frames of one version that have the same place
 abbrev pub WordsAreOfPairs : (JobTree → Table → Type 0) → Type 0
-WordsAreOfPairs says = (talk : Option Talk) (asked given : List ℕ) (j : JobTree) (t : Table) (ds : List Derivation) →
-    IsWordKept says talk → ArePaired talk asked given → Asks asked j → Replies given j.ticket j.kinds t ds → says j t
+WordsAreOfPairs says = (talk : Option Talk) (asked given : List ℕ) (v : ℕ) (j : JobTree) (t : Table) (ds : List Derivation) →
+    IsWordKept says talk → ArePaired talk asked given → SpellsIn v asked (request j) → SpellsIn v given (reply j.ticket j.kinds t ds) → says j t
 
 -- How many whole frames bytes begin with: it is one number, none where there are no bytes, and more bytes never lower it.
 pub record FramesAreCounted : Type 0 where

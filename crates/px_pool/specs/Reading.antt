@@ -42,15 +42,15 @@ StopsIn old new n Large = ⊥
 StopsIn old new n NoMemory = ⊥
 
 -- a message of so many bytes was given, with this outcome; or it isn't whole
-abbrev pub IsRead : JobTree → Option Talk → Option Talk → ℕ → Result Answer Lost → Type 0
-IsRead j old new n (Ok a) = (m : List ℕ) × (length m ≡ n) × Gives old new m false × IsOutcome j m (Ok a)
-IsRead j old new n (Err why) = StopsIn old new n why ⊎ ((m : List ℕ) × (length m ≡ n) × Gives old new m false × IsFaultIn j m why)
+abbrev pub IsRead : ℕ → JobTree → Option Talk → Option Talk → ℕ → Result Answer Lost → Type 0
+IsRead v j old new n (Ok a) = (m : List ℕ) × (length m ≡ n) × Gives old new m false × IsOutcome v j m (Ok a)
+IsRead v j old new n (Err why) = StopsIn old new n why ⊎ ((m : List ℕ) × (length m ≡ n) × Gives old new m false × IsFaultIn v j m why)
 
 -- where this frame is sent, one frame with this message is given
 abbrev pub GivesMessage : Option Talk → Option Talk → List ℕ → List ℕ → Type 0
 GivesMessage old new frame m = (length m ≤ most_bytes) × Passes old new (gave frame (frame_of m) false)
 
 -- a frame was given whose message has this outcome; or no whole frame was
-abbrev pub IsReplied : JobTree → Option Talk → Option Talk → List ℕ → Result Answer Lost → Type 0
-IsReplied j old new frame (Ok a) = (m : List ℕ) × GivesMessage old new frame m × IsOutcome j m (Ok a)
-IsReplied j old new frame (Err why) = Unanswered old new frame why ⊎ ((m : List ℕ) × GivesMessage old new frame m × IsFaultIn j m why)
+abbrev pub IsReplied : ℕ → JobTree → Option Talk → Option Talk → List ℕ → Result Answer Lost → Type 0
+IsReplied v j old new frame (Ok a) = (m : List ℕ) × GivesMessage old new frame m × IsOutcome v j m (Ok a)
+IsReplied v j old new frame (Err why) = Unanswered old new frame why ⊎ ((m : List ℕ) × GivesMessage old new frame m × IsFaultIn v j m why)

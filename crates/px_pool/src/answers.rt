@@ -22,11 +22,11 @@ pub struct Answer {
     pub drops: Items<Gap>,
 }
 
-/// What a message gives in reply to a job.
+/// What a message gives in reply to a job that was asked for in version 1.
 pub fn answer_in(alloc: Global, job: &Job, message: &[u8]) -> Result<Answer, Lost>
     ensures jobs { IfOk result (λ a. AreOf (job_tree job.now) a.entries) }
-    ensures table { IfOk result (λ a. GivesTable (job_tree job.now) message.now (table_from a.entries a.drops)) }
-    ensures fault { (why : ALost) → IsErrOf result why → IsFaultIn (job_tree job.now) message.now why }
+    ensures table { IfOk result (λ a. GivesTable 1 (job_tree job.now) message.now (table_from a.entries a.drops)) }
+    ensures fault { (why : ALost) → IsErrOf result why → IsFaultIn 1 (job_tree job.now) message.now why }
 {
     let Reply { table, derivations } = reply_in(alloc, job, message)?;
     let Table { entries, drops } = table;
@@ -41,10 +41,10 @@ struct Reply {
     derivations: Items<Derivation>,
 }
 
-// The reply that a message is.
+// The reply that a message is in version 1.
 fn reply_in(alloc: Global, job: &Job, message: &[u8]) -> Result<Reply, Lost>
     ensures reply { IfOk result (λ r. Spells message.now (reply job.now.ticket job.now.kinds r.table r.derivations)) }
-    ensures fault { (why : ALost) → IsErrOf result why → IsFaultIn (job_tree job.now) message.now why }
+    ensures fault { (why : ALost) → IsErrOf result why → IsFaultIn 1 (job_tree job.now) message.now why }
 {
     match decode_full(alloc, message) {
         Ok(

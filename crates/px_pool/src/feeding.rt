@@ -33,15 +33,16 @@ pub(crate) enum Fed {
     Done(Result<Answer, Lost>),
 }
 
-/// Takes one piece more of a reply, and all parts that are whole then.
+/// Takes one piece more of a reply that was asked for in a version, and all parts that are whole then.
 pub(crate) fn feed(
     alloc: Global,
     job: &Job,
+    version: u8,
     reader: &mut Reader,
     standing: Standing,
     piece: &[u8],
 ) -> Fed
-    ensures { (bytes : List ℕ) (left : ℕ) (parts : List APart) → HasGiven bytes left parts reader.old → IsStanding (job_tree job.now) parts standing → length piece.now ≤ left → IsFed (job_tree job.now) (bytes ++ piece.now) (left - length piece.now) reader.new result }
+    ensures { (bytes : List ℕ) (left : ℕ) (parts : List APart) → HasGiven bytes left parts reader.old → IsStanding version (job_tree job.now) parts standing → length piece.now ≤ left → IsFed version (job_tree job.now) (bytes ++ piece.now) (left - length piece.now) reader.new result }
 {
     let mut standing = standing;
     let mut rest = piece;
@@ -49,7 +50,7 @@ pub(crate) fn feed(
         match reader.take(rest) {
             Ok(answer) => {
                 let Taken { part, .. } = answer;
-                match turn_by(alloc, job, standing, part) {
+                match turn_by(alloc, job, version, standing, part) {
                     Turn::Held(last) => return Fed::Open(last),
                     Turn::Ended(last) => return Fed::Done(finish(last)),
                     Turn::More(next) => {
@@ -68,21 +69,22 @@ pub(crate) fn feed(
 pub(crate) fn feed_more(
     alloc: Global,
     job: &Job,
+    version: u8,
     reader: &mut Reader,
     fed: Fed,
     piece: &[u8],
 ) -> Fed
-    ensures { (bytes : List ℕ) (left : ℕ) → IsFed (job_tree job.now) bytes left reader.old fed → length piece.now ≤ left → IsFed (job_tree job.now) (bytes ++ piece.now) (left - length piece.now) reader.new result }
+    ensures { (bytes : List ℕ) (left : ℕ) → IsFed version (job_tree job.now) bytes left reader.old fed → length piece.now ≤ left → IsFed version (job_tree job.now) (bytes ++ piece.now) (left - length piece.now) reader.new result }
 {
     match fed {
-        Fed::Open(standing) => feed(alloc, job, reader, standing, piece),
+        Fed::Open(standing) => feed(alloc, job, version, reader, standing, piece),
         Fed::Done(answer) => Fed::Done(answer),
     }
 }
 
 /// What a message gives, where all its bytes came.
 pub(crate) fn outcome(fed: Fed) -> Result<Answer, Lost>
-    ensures { (j : JobTree) (bytes : List ℕ) (w : Waiting) → IsFed j bytes 0 w fed → IsOutcome j bytes result }
+    ensures { (v : ℕ) (j : JobTree) (bytes : List ℕ) (w : Waiting) → IsFed v j bytes 0 w fed → IsOutcome v j bytes result }
 {
     match fed {
         Fed::Open(_) => Err(Lost::Frame),
@@ -91,9 +93,9 @@ pub(crate) fn outcome(fed: Fed) -> Result<Answer, Lost>
 }
 
 // What a part is, and what is known then.
-fn turn_by(alloc: Global, job: &Job, standing: Standing, part: Part) -> Turn
+fn turn_by(alloc: Global, job: &Job, version: u8, standing: Standing, part: Part) -> Turn
     ensures turn { IsTurn part result }
-    ensures standing { (parts : List APart) → IsStanding (job_tree job.now) parts standing → StandsAfter (job_tree job.now) parts part result }
+    ensures standing { (parts : List APart) → IsStanding version (job_tree job.now) parts standing → StandsAfter version (job_tree job.now) parts part result }
 {
     if is_held(&part) {
         return Turn::Held(standing);
@@ -101,7 +103,7 @@ fn turn_by(alloc: Global, job: &Job, standing: Standing, part: Part) -> Turn
     if is_end(&part) {
         return Turn::Ended(standing);
     }
-    Turn::More(put(alloc, job, standing, part))
+    Turn::More(put(alloc, job, version, standing, part))
 }
 
 fn is_held(part: &Part) -> bool

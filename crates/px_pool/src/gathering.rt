@@ -36,12 +36,12 @@ pub(crate) enum Standing {
     Lost(Lost),
 }
 
-/// What is known where one part more came.
-pub(crate) fn put(alloc: Global, job: &Job, standing: Standing, part: Part) -> Standing
-    ensures { (parts : List APart) → IsStanding (job_tree job.now) parts standing → IsStanding (job_tree job.now) (parts ++ part ∷ []) result }
+/// What is known where one part more came of a message that was asked for in a version.
+pub(crate) fn put(alloc: Global, job: &Job, version: u8, standing: Standing, part: Part) -> Standing
+    ensures { (parts : List APart) → IsStanding version (job_tree job.now) parts standing → IsStanding version (job_tree job.now) (parts ++ part ∷ []) result }
 {
     match standing {
-        Standing::Unbegun => begin(alloc, job, part),
+        Standing::Unbegun => begin(alloc, job, version, part),
         Standing::Open(gathering) => go_on(alloc, job, gathering, part),
         Standing::Lost(why) => Standing::Lost(why),
     }
@@ -49,20 +49,37 @@ pub(crate) fn put(alloc: Global, job: &Job, standing: Standing, part: Part) -> S
 
 // ---- the first part
 
-// What is known by the first part.
-fn begin(alloc: Global, job: &Job, part: Part) -> Standing
-    ensures { IsStanding (job_tree job.now) (part ∷ []) result }
+// What is known by the first part. In the other version it is none that was asked for.
+fn begin(alloc: Global, job: &Job, version: u8, part: Part) -> Standing
+    ensures { IsStanding version (job_tree job.now) (part ∷ []) result }
 {
     match part {
-        Part::Head { ticket, kinds, .. } => begin_reply(alloc, job, ticket, &kinds),
-        Part::Large { ticket, .. } => begin_large(job, ticket),
+        Part::Head {
+            version: own,
+            ticket,
+            kinds,
+        } => {
+            if own != version {
+                return Standing::Lost(Lost::Frame);
+            }
+            begin_reply(alloc, job, ticket, &kinds)
+        }
+        Part::Large {
+            version: own,
+            ticket,
+        } => {
+            if own != version {
+                return Standing::Lost(Lost::Frame);
+            }
+            begin_large(job, ticket)
+        }
         _ => Standing::Lost(Lost::Frame),
     }
 }
 
-// The same, where it stands before the table of a reply.
+// The same, where it stands before the table of a reply, in the version that was asked for.
 fn begin_reply(alloc: Global, job: &Job, ticket: u64, kinds: &Items<u8>) -> Standing
-    ensures { (number : ℕ) → IsStanding (job_tree job.now) (part_of.Head number ticket kinds.now ∷ []) result }
+    ensures { (v : ℕ) → IsStanding v (job_tree job.now) (part_of.Head v ticket kinds.now ∷ []) result }
 {
     if !is_asked(job, ticket) {
         return Standing::Lost(Lost::Ticket {
@@ -78,7 +95,7 @@ fn begin_reply(alloc: Global, job: &Job, ticket: u64, kinds: &Items<u8>) -> Stan
 
 // The same, where it says that the reply is too long.
 fn begin_large(job: &Job, ticket: u64) -> Standing
-    ensures { (number : ℕ) → IsStanding (job_tree job.now) (part_of.Large number ticket ∷ []) result }
+    ensures { (v : ℕ) → IsStanding v (job_tree job.now) (part_of.Large v ticket ∷ []) result }
 {
     if !is_asked(job, ticket) {
         return Standing::Lost(Lost::Ticket {
@@ -110,7 +127,7 @@ fn nothing_yet(alloc: Global) -> Gathering
 // ---- one part more of a reply
 
 fn go_on(alloc: Global, job: &Job, gathering: Gathering, part: Part) -> Standing
-    ensures { (parts : List APart) → IsOpen (job_tree job.now) parts gathering → IsStanding (job_tree job.now) (parts ++ part ∷ []) result }
+    ensures { (v : ℕ) (parts : List APart) → IsOpen v (job_tree job.now) parts gathering → IsStanding v (job_tree job.now) (parts ++ part ∷ []) result }
 {
     match gather(alloc, job, gathering, part) {
         Ok(more) => Standing::Open(more),
@@ -230,7 +247,7 @@ fn none_wait(pending: &VecDeque<Entry>) -> bool
 
 /// What a message gives that these parts are of.
 pub(crate) fn finish(standing: Standing) -> Result<Answer, Lost>
-    ensures { (j : JobTree) (parts : List APart) → IsStanding j parts standing → Tells j parts result }
+    ensures { (v : ℕ) (j : JobTree) (parts : List APart) → IsStanding v j parts standing → Tells v j parts result }
 {
     match standing {
         Standing::Unbegun => Err(Lost::Frame),
@@ -240,7 +257,7 @@ pub(crate) fn finish(standing: Standing) -> Result<Answer, Lost>
 }
 
 fn close(gathering: Gathering) -> Result<Answer, Lost>
-    ensures { (j : JobTree) (parts : List APart) → IsOpen j parts gathering → Tells j parts result }
+    ensures { (v : ℕ) (j : JobTree) (parts : List APart) → IsOpen v j parts gathering → Tells v j parts result }
 {
     let Gathering {
         pending,

@@ -23,20 +23,22 @@ use std::sync::Wait;
 /// How many bytes are received at a time, at most.
 const PIECE: usize = 4_096;
 
-/// Sends a frame, and says what the message of the one frame that is given after it gives of a job. No copy of the message is made.
+/// Sends a frame, and says what the message of the one frame that is given after it gives of a job that was asked for in a version. No
+/// copy of the message is made.
 pub(crate) fn ask<R: Wait, K: Link>(
     rt: &R,
     alloc: Global,
     link: &mut K,
     framed: &[u8],
     job: &Job,
+    version: u8,
 ) -> Result<Answer, Lost>
-    ensures replied { IsReplied (job_tree job.now) (K.told link.old) (K.told link.new) framed.now result }
+    ensures replied { IsReplied version (job_tree job.now) (K.told link.old) (K.told link.new) framed.now result }
     ensures word { OnOk result (IsWordKept K.Word.says (K.told link.new)) }
     ensures faults { CountsFaults (K.count link.old) (K.count link.new) result }
 {
     match link.send(rt, framed) {
-        Ok(()) => read_reply(rt, alloc, link, job),
+        Ok(()) => read_reply(rt, alloc, link, job, version),
         Err(Failed) => Err(Lost::Send),
     }
 }
@@ -47,13 +49,14 @@ fn read_reply<R: Wait, K: Link>(
     alloc: Global,
     link: &mut K,
     job: &Job,
+    version: u8,
 ) -> Result<Answer, Lost>
-    ensures replied { IsReplied (job_tree job.now) (K.told link.old) (K.told link.new) [] result }
+    ensures replied { IsReplied version (job_tree job.now) (K.told link.old) (K.told link.new) [] result }
     ensures word { OnOk result (IsWordKept K.Word.says (K.told link.new)) }
     ensures faults { CountsFaults (K.count link.old) (K.count link.new) result }
 {
     let length = read_length(rt, link)?;
-    read_parts(rt, alloc, link, job, length)
+    read_parts(rt, alloc, link, job, version, length)
 }
 
 // Reads a message of so many bytes, and says what it gives. Whatever that is, it is read to its end.
@@ -62,15 +65,16 @@ fn read_parts<R: Wait, K: Link>(
     alloc: Global,
     link: &mut K,
     job: &Job,
+    version: u8,
     length: u32,
 ) -> Result<Answer, Lost>
     requires { length ≤ most_bytes }
-    ensures read { IsRead (job_tree job.now) (K.told link.old) (K.told link.new) length result }
+    ensures read { IsRead version (job_tree job.now) (K.told link.old) (K.told link.new) length result }
     ensures word { IsWordKept K.Word.says (K.told link.old) → IsWordKept K.Word.says (K.told link.new) }
     ensures faults { CountsFaults (K.count link.old) (K.count link.new) result }
 {
     let mut reader = Reader::new(alloc, length);
-    let mut fed = feed(alloc, job, &mut reader, Standing::Unbegun, &[]);
+    let mut fed = feed(alloc, job, version, &mut reader, Standing::Unbegun, &[]);
     let mut piece = [0u8; PIECE];
     let mut came = 0;
     while came < length as usize {
@@ -80,7 +84,8 @@ fn read_parts<R: Wait, K: Link>(
         if count == 0 {
             return Err(Lost::Closed(4 + came as u64));
         }
-        fed = feed_more(alloc, job, &mut reader, fed, first(&piece, count));
+        let more = first(&piece, count);
+        fed = feed_more(alloc, job, version, &mut reader, fed, more);
         came += count;
     }
     outcome(fed)

@@ -9,8 +9,8 @@ use Rattle.px_lines.specs.Sinks.{Change}
 use Rattle.px_worker.specs.Stops.{AreRequests}
 use Rattle.px_serving.specs.Works.{Works}
 
--- Over an input of whole requests with its kinds a worker has done all, or ends for want of memory, where no count of its input or
--- of what it puts out rose.
+-- Over an input of whole requests of either version with its kinds a worker has done all, or ends for want of memory, where no
+-- count of its input or of what it puts out rose.
 abbrev pub WholeRequestsAreServed : Type 0
 WholeRequestsAreServed = (kinds requests : List ℕ) (input out : Change) (ended : Result Status Cause) → Works kinds input out ended →
-    input.old ≡ Some requests → AreRequests kinds requests → ¬ Rose input.before input.now → ¬ Rose out.before out.now → (ended ≡ Ok Done) ⊎ (ended ≡ Err NoMemory)
+    input.old ≡ Some requests → AreRequests 2 kinds requests → ¬ Rose input.before input.now → ¬ Rose out.before out.now → (ended ≡ Ok Done) ⊎ (ended ≡ Err NoMemory)

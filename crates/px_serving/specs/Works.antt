@@ -23,10 +23,10 @@ abbrev pub ended_of : Result ⊤ ServeFault → Result Status Cause
 ended_of (Ok _) = Ok Done
 ended_of (Err fault) = Err (cause_of fault)
 
--- A worker with domains of these kinds served, and a run ends so: its input, and what it put out.
+-- A worker that knows both versions, with domains of these kinds, served, and a run ends so: its input, and what it put out.
 pub record Works (kinds : List ℕ) (input out : Change) (ended : Result Status Cause) : Type 0 where
   pub outcome : Result ⊤ ServeFault
-  pub serves : Serves kinds input.old input.new out.old out.new outcome
+  pub serves : Serves 2 kinds input.old input.new out.old out.new outcome
   pub read_cause : HasCauseOf Read input.before input.now outcome
   pub write_cause : HasCauseOf Write out.before out.now outcome
   pub ended_is : ended ≡ ended_of outcome

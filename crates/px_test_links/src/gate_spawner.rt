@@ -40,7 +40,7 @@ impl GateSpawner {
 fn next_link(alloc: Global, looks: u32, alone: &mut Option<Pair>) -> Option<GateLink>
     ensures { IfSome result (λ l. l.link.talk ≡ nothing) }
 {
-    let link = HonestLink::new(alloc, Vec::new(alloc), None).ok()?;
+    let link = HonestLink::new(alloc, Vec::new(alloc), 2, None).ok()?;
     let (pair, side) = next_place(alloc, alone)?;
     Some(GateLink::new(link, pair, side, looks))
 }

@@ -69,7 +69,7 @@ fn next_link(alloc: Global, plans: &mut IntoIter<MixedPlan, Global>) -> Option<M
     match plans.next()? {
         MixedPlan::Script(script) => Some(MixedLink::Script(ScriptLink::new(alloc, script))),
         MixedPlan::InPlace(plan) => {
-            let link = HonestLink::new(alloc, plan.domains, plan.dies_at).ok()?;
+            let link = HonestLink::new(alloc, plan.domains, plan.known, plan.dies_at).ok()?;
             Some(MixedLink::InPlace(link))
         }
     }

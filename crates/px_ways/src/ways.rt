@@ -15,7 +15,7 @@ ghost use Rattle.px_callgraph.specs.Commands as spec;
 ghost use Rattle.px_terms.specs.declared.conjuncts.Conj.{Conj};
 ghost use Rattle.px_entry.specs.Decided.{is_open};
 ghost use Rattle.px_match.specs.Operated.{IsCompared};
-ghost use Rattle.px_ways.specs.Ways.{or_unwritten, test_listed};
+ghost use Rattle.px_ways.specs.Ways.{or_unwritten, test_listed, only_goes_on};
 
 use crate::contents::{is_word, is_written, operand_fits, slot_content};
 use crate::divisions::divide_ways;
@@ -30,10 +30,11 @@ use px_match::{
 use px_terms::{BlockType, Content, NoMemory, Place, TypeId, ValueType, Var, VarInfo};
 use std::alloc::Global;
 
-/// Whether a path goes on by a command that has this one way at most; none of the other commands. No list is made.
+/// Whether a path goes on by a command that has the way `On` at most; none of each other command. No list is made.
 #[tactic(auto, using(px_core::proofs::CommandEquations::trees))]
 pub fn goes_on(job: &Job, state: &State, command: &Command) -> Option<bool>
-    ensures { IfSome result (λ yes. spec.command_ways (job_tree job.now) state.now (command_tree command.now) ≡ listed_if yes way.On) }
+    ensures seen { is_some result ≡ only_goes_on (command_tree command.now) }
+    ensures listed { IfSome result (λ yes. spec.command_ways (job_tree job.now) state.now (command_tree command.now) ≡ listed_if yes way.On) }
 {
     match command {
         Command::Assign { op, a, b, .. } => Some(is_operation(state, *op, *a, *b)),
@@ -42,7 +43,14 @@ pub fn goes_on(job: &Job, state: &State, command: &Command) -> Option<bool>
         Command::Leave | Command::Break | Command::Continue => Some(is_in_loop(state)),
         Command::Call { arguments, .. } => Some(are_arguments(state, arguments)),
         Command::Return { from } => Some(returns(state, job.body.result, *from)),
-        _ => None,
+        Command::Read { .. }
+        | Command::Test { .. }
+        | Command::Load { .. }
+        | Command::Store { .. }
+        | Command::Malloc { .. }
+        | Command::Free { .. }
+        | Command::Stop { .. }
+        | Command::Divide { .. } => None,
     }
 }
 

@@ -5,3 +5,4 @@ pub mod JobRoundTrips
 pub mod MessageRanges
 pub mod MessageRoundTrips
 pub mod Listed
+pub mod ShortMessages

@@ -1,4 +1,4 @@
-ghost use Rattle.std.specs.Prelude.{◌≡◌, ◌-◌, ◌^◌, ◌≤◌, ◌++◌, ◌∷◌, [], min, length, IfOk};
+ghost use Rattle.std.specs.Prelude.{◌≡◌, ◌⊎◌, ◌-◌, ◌^◌, ◌≤◌, ◌++◌, ◌∷◌, [], min, length, IfOk};
 ghost use Rattle.px_callgraph.specs.JobTree.{job_tree};
 ghost use Rattle.px_frames.specs.Frames.{frame_of, most_bytes};
 ghost use Rattle.px_wire.specs.Sinks.{IsWritten};
@@ -8,6 +8,7 @@ ghost use Rattle.px_wire.specs.Mentions.{terms_of};
 ghost use Rattle.px_wire.specs.Versions.{message_tree, terms_bytes, shared_bytes, bytes_in};
 
 use crate::message::{Message, SHARED, Said, VERSION};
+use crate::sharing::request_terms;
 use crate::sink_buffer::{finish, new_buffer};
 use px_base::Limits;
 use px_body_spelling::write_body;
@@ -41,13 +42,36 @@ pub fn encode_full(alloc: Global, said: &Said) -> Result<Vec<u8>, NoMemory>
     if out.lost { Err(NoMemory) } else { Ok(bytes) }
 }
 
-/// The bytes of the request to analyse a job, in version 1.
-pub fn encode_request(alloc: Global, job: &Job) -> Result<Vec<u8>, NoMemory>
+/// The bytes of the request to analyse a job, in a version.
+pub fn encode_request(alloc: Global, job: &Job, version: u8) -> Result<Vec<u8>, NoMemory>
+    requires { (version ≡ 1) ⊎ (version ≡ 2) }
+    ensures { IfOk result (λ bytes. bytes.items ≡ bytes_in version (request (job_tree job.now))) }
+{
+    if version == SHARED {
+        encode_shared_request(alloc, job)
+    } else {
+        encode_full_request(alloc, job)
+    }
+}
+
+// In version 1.
+fn encode_full_request(alloc: Global, job: &Job) -> Result<Vec<u8>, NoMemory>
     ensures { IfOk result (λ bytes. bytes.items ≡ message_bytes (request (job_tree job.now))) }
 {
     let mut bytes = Vec::new(alloc);
     let mut out = ByteList::new();
     write_request(job, &mut out, &mut bytes);
+    if out.lost { Err(NoMemory) } else { Ok(bytes) }
+}
+
+// In version 2.
+fn encode_shared_request(alloc: Global, job: &Job) -> Result<Vec<u8>, NoMemory>
+    ensures { IfOk result (λ bytes. bytes.items ≡ shared_bytes (request (job_tree job.now))) }
+{
+    let terms = request_terms(alloc, job)?;
+    let mut bytes = Vec::new(alloc);
+    let mut out = ByteList::new();
+    write_shared_request(&terms, job, &mut out, &mut bytes);
     if out.lost { Err(NoMemory) } else { Ok(bytes) }
 }
 
@@ -108,6 +132,17 @@ fn write_request<O: Output>(job: &Job, out: &mut O, target: &mut O::Target)
 {
     write_head(0, VERSION, out, target);
     write_job(&InFull, job, out, target)
+}
+
+// Puts the bytes of a request in version 2, with these terms.
+fn write_shared_request<O: Output>(terms: &TermList, job: &Job, out: &mut O, target: &mut O::Target)
+    requires { terms.now ≡ terms_of (request (job_tree job.now)) }
+    ensures written { O.written out.new ≡ O.written out.old ++ shared_bytes (request (job_tree job.now)) }
+    ensures reached { (from : O.Target) → O.reaches from out.old target.old → O.reaches from out.new target.new }
+{
+    write_head(0, SHARED, out, target);
+    write_items(terms.as_slice(), out, target);
+    write_job(terms, job, out, target)
 }
 
 // Puts the bytes of version 1.

@@ -1,12 +1,13 @@
 ghost use Rattle.std.specs.Prelude.{◌≡◌, ◌↔◌, ◌++◌, true, map, IfOk, OnOk};
 ghost use Rattle.std.specs.List.{flat_map};
+ghost use Rattle.px_callgraph.specs.JobTree.{job_tree};
 ghost use Rattle.px_spelling.specs.Mentions.{callee_mentions};
-ghost use Rattle.px_wire.specs.Messages.{said_tree};
+ghost use Rattle.px_wire.specs.Messages.{said_tree, request};
 ghost use Rattle.px_wire.specs.Mentions.{mentions, terms_of};
 
 use crate::message::{Message, Said};
 use px_base::ProcId;
-use px_callgraph::Callee;
+use px_callgraph::{Callee, Job};
 use px_spelling::{Mentions, TermList, distinct};
 use px_terms::{NoMemory, Poly};
 use std::alloc::Global;
@@ -28,6 +29,16 @@ fn terms_in(alloc: Global, said: &Said) -> Result<TermList, NoMemory>
     let mut all = Vec::new(alloc);
     add_mentions(said, &mut all)?;
     distinct(alloc, &all)
+}
+
+/// The terms of the request to analyse a job.
+pub(crate) fn request_terms(alloc: Global, job: &Job) -> Result<TermList, NoMemory>
+    ensures { IfOk result (λ ts. ts ≡ terms_of (request (job_tree job.now))) }
+{
+    let mut all = Vec::new(alloc);
+    add_callee_mentions(job.callees.as_slice(), &mut all)?;
+    let terms = distinct(alloc, &all)?;
+    Ok(terms)
 }
 
 /// Whether these are the terms of what is said.

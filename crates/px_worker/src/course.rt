@@ -29,7 +29,7 @@ pub struct Course {
 impl Course {
     /// Nothing was read. Takes no memory.
     pub fn new(alloc: Global) -> Course
-        ensures on { (kinds : List ℕ) → IsOn kinds [] [] result }
+        ensures on { (known : ℕ) (kinds : List ℕ) → IsOn known kinds [] [] result }
         ensures part { IsOpen result.feeder }
     {
         Course {
@@ -39,11 +39,13 @@ impl Course {
         }
     }
 
-    /// Answers the messages of a piece, each with the bytes of it that came before, by these domains, which stand by
-    /// rising kinds and hold nothing, before and after. What is after the last whole one is kept.
+    /// Answers the messages of a piece, each with the bytes of it that came before, as who knows the versions from 1 to this
+    /// one, by these domains, which stand by rising kinds and hold nothing, before and after. What is after the last whole
+    /// message is kept.
     pub fn take<K: Sink>(
         &mut self,
         alloc: Global,
+        known: u8,
         piece: &[u8],
         sink: &mut K,
         domains: &mut Vec<Box<dyn Domain>>,
@@ -51,8 +53,8 @@ impl Course {
         requires part { IsOpen self.old.feeder }
         requires clear { All (λ b. holds b []) domains.old.items }
         ensures part { OnOk result (IsOpen self.new.feeder) }
-        ensures on { OnOk result (OnAfter (map (λ b. number b) domains.old.items) self.old self.new piece.now (K.told sink.old) (K.told sink.new)) }
-        ensures stops { (fault : AFault) → IsErrOf result fault → StopsAfter (map (λ b. number b) domains.old.items) self.old piece.now (K.told sink.old) (K.told sink.new) fault }
+        ensures on { OnOk result (OnAfter known (map (λ b. number b) domains.old.items) self.old self.new piece.now (K.told sink.old) (K.told sink.new)) }
+        ensures stops { (fault : AFault) → IsErrOf result fault → StopsAfter known (map (λ b. number b) domains.old.items) self.old piece.now (K.told sink.old) (K.told sink.new) fault }
         ensures cause { HasCauseOf Write (K.count sink.old) (K.count sink.new) result }
         ensures unread { ¬ IsErrOf result Read }
         ensures clear { All (λ b. holds b []) domains.new.items }
@@ -60,7 +62,7 @@ impl Course {
     {
         let mut from = 0;
         while from < piece.len() {
-            let count = answer_first(alloc, self, &piece[from..], sink, domains)?;
+            let count = answer_first(alloc, known, self, &piece[from..], sink, domains)?;
             from += count;
         }
         Ok(())
@@ -70,6 +72,7 @@ impl Course {
 // Answers the first message that is whole with the bytes of a piece, and says how many bytes were taken.
 fn answer_first<K: Sink>(
     alloc: Global,
+    known: u8,
     course: &mut Course,
     piece: &[u8],
     sink: &mut K,
@@ -80,8 +83,8 @@ fn answer_first<K: Sink>(
     requires clear { All (λ b. holds b []) domains.old.items }
     ensures taken { IfOk result (λ n. (0 < n) × (n ≤ length piece.now)) }
     ensures part { OnOk result (IsOpen course.new.feeder) }
-    ensures on { IfOk result (λ n. OnAfter (map (λ b. number b) domains.old.items) course.old course.new (take n piece.now) (K.told sink.old) (K.told sink.new)) }
-    ensures stops { (fault : AFault) → IsErrOf result fault → StopsAfter (map (λ b. number b) domains.old.items) course.old piece.now (K.told sink.old) (K.told sink.new) fault }
+    ensures on { IfOk result (λ n. OnAfter known (map (λ b. number b) domains.old.items) course.old course.new (take n piece.now) (K.told sink.old) (K.told sink.new)) }
+    ensures stops { (fault : AFault) → IsErrOf result fault → StopsAfter known (map (λ b. number b) domains.old.items) course.old piece.now (K.told sink.old) (K.told sink.new) fault }
     ensures cause { HasCauseOf Write (K.count sink.old) (K.count sink.new) result }
     ensures unread { ¬ IsErrOf result Read }
     ensures clear { All (λ b. holds b []) domains.new.items }
@@ -94,7 +97,7 @@ fn answer_first<K: Sink>(
             Ok(piece.len())
         }
         Ok(Fed::Whole { message, taken }) => {
-            answer_message(alloc, course.place, &message, sink, domains)?;
+            answer_message(alloc, known, course.place, &message, sink, domains)?;
             course.place = course.place.saturating_add(4 + message.len() as u64);
             course.begun = false;
             Ok(taken as usize)
@@ -107,6 +110,7 @@ fn answer_first<K: Sink>(
 // Writes the frame of what is owed for a message whose frame begins at this place.
 fn answer_message<K: Sink>(
     alloc: Global,
+    known: u8,
     place: u64,
     message: &[u8],
     sink: &mut K,
@@ -114,13 +118,13 @@ fn answer_message<K: Sink>(
 ) -> Result<(), ServeFault>
     requires message { length message.now ≤ most_bytes }
     requires clear { All (λ b. holds b []) domains.old.items }
-    ensures speaks { Speaks (map (λ b. number b) domains.old.items) message.now place (K.told sink.old) (K.told sink.new) result }
+    ensures speaks { Speaks known (map (λ b. number b) domains.old.items) message.now place (K.told sink.old) (K.told sink.new) result }
     ensures cause { HasCauseOf Write (K.count sink.old) (K.count sink.new) result }
     ensures unread { ¬ IsErrOf result Read }
     ensures clear { All (λ b. holds b []) domains.new.items }
     ensures kinds { map (λ b. number b) domains.new.items ≡ map (λ b. number b) domains.old.items }
 {
-    match owed(alloc, message, domains) {
+    match owed(alloc, known, message, domains) {
         Ok(answer) => match write_counted(sink, &answer.message, answer.count) {
             Ok(()) => Ok(()),
             Err(Failed) => Err(ServeFault::Write),

@@ -10,7 +10,7 @@ pub enum ServeFault {
     /// A write failed.
     #[error("cannot write")]
     Write,
-    /// The frame that begins at this byte isn't the whole frame of a request.
+    /// The frame that begins at this byte isn't the whole frame of a request of a known version.
     #[error("bad request at byte {0}")]
     Bad(u64),
     /// The request whose frame begins at this byte has other kinds than the domains.

@@ -1,8 +1,9 @@
-//! A worker: it reads requests, and answers each with the table of its job, or that this is too long for a frame. What
-//! `serve` wrote is the one answer of what it read, or a beginning of it, and each outcome has its cause and its place.
+//! A worker: it reads requests, and answers each in its version, with the table of its job, or that this is too long for a
+//! frame. What `serve` wrote is the one answer of what it read, or a beginning of it, and each outcome has its cause and its
+//! place.
 //!
-//! `specs/` says what it owes for the bytes that it was sent, and where it stops. `serve` is its loop over a source;
-//! `Course` is the same for who hands it its input piece by piece.
+//! `specs/` says what it owes for the bytes that it was sent, and where it stops, by the versions that it knows. `serve` is the
+//! loop over a source of one that knows both; `Course` is the same for who hands it its input piece by piece.
 #![tactic(auto)]
 
 mod course;

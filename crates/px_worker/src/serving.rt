@@ -7,10 +7,12 @@ ghost use Rattle.px_worker.specs.Courses.{IsOpen, IsTurn};
 use crate::{Course, ServeFault, answers_begin};
 use px_io::{Sink, Source};
 use px_terms::Domain;
+use px_wire::SHARED;
 use std::alloc::Global;
 use std::sync::Wait;
 
-/// The loop of a worker: reads requests to the end of its input, and writes for each what is owed for it.
+/// The loop of a worker that knows both versions: reads requests to the end of its input, and writes for each what is owed for
+/// it, in the version of the request.
 ///
 /// It may wait for its input for ever, and an input that doesn't end keeps it going. The domains stand by rising kinds, as
 /// those of a request do; in another order they would have other kinds than each request. What is owed for a request is
@@ -24,7 +26,7 @@ pub fn serve<R: Wait, I: Source, K: Sink>(
     domains: &mut Vec<Box<dyn Domain>>,
 ) -> Result<(), ServeFault>
     requires { All (λ b. holds b []) domains.old.items }
-    ensures serves { Serves (map (λ b. number b) domains.old.items) (I.told source.old) (I.told source.new) (K.told sink.old) (K.told sink.new) result }
+    ensures serves { Serves 2 (map (λ b. number b) domains.old.items) (I.told source.old) (I.told source.new) (K.told sink.old) (K.told sink.new) result }
     ensures read_cause { HasCauseOf Read (I.count source.old) (I.count source.new) result }
     ensures write_cause { HasCauseOf Write (K.count sink.old) (K.count sink.new) result }
     ensures clear { All (λ b. holds b []) domains.new.items }
@@ -49,7 +51,7 @@ fn serve_piece<I: Source, K: Sink>(
 ) -> Result<bool, ServeFault>
     requires part { IsOpen course.old.feeder }
     requires clear { All (λ b. holds b []) domains.old.items }
-    ensures turn { IsTurn (map (λ b. number b) domains.old.items) course.old course.new (I.told source.old) (I.told source.new) (K.told sink.old) (K.told sink.new) result }
+    ensures turn { IsTurn 2 (map (λ b. number b) domains.old.items) course.old course.new (I.told source.old) (I.told source.new) (K.told sink.old) (K.told sink.new) result }
     ensures read_cause { HasCauseOf Read (I.count source.old) (I.count source.new) result }
     ensures write_cause { HasCauseOf Write (K.count sink.old) (K.count sink.new) result }
     ensures clear { All (λ b. holds b []) domains.new.items }
@@ -66,6 +68,6 @@ fn serve_piece<I: Source, K: Sink>(
         }
         return Ok(true);
     }
-    course.take(alloc, &piece[..count], sink, domains)?;
+    course.take(alloc, SHARED, &piece[..count], sink, domains)?;
     Ok(false)
 }

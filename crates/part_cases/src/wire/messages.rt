@@ -2,7 +2,7 @@ use super::changes::{CHANGES, changed};
 use super::parts::{come_together, come_together_at_each_cut, come_together_in_pieces};
 use anyhow::{Result, bail};
 use px_spelling::WireFault;
-use px_wire::{Message, Said, decode_full, encode, length};
+use px_wire::{Said, decode, encode, length};
 use std::alloc::Global;
 use std::fmt::Write;
 
@@ -21,8 +21,8 @@ enum Spelled {
 }
 
 fn read_as(alloc: Global, bytes: &[u8]) -> Result<Spelled> {
-    let said = match decode_full(alloc, bytes) {
-        Ok(said) => said,
+    let message = match decode(alloc, bytes) {
+        Ok(message) => message,
         Err(WireFault::NotAMessage) => {
             let none = come_together(alloc, bytes, false)?;
             return Ok(if none {
@@ -33,11 +33,10 @@ fn read_as(alloc: Global, bytes: &[u8]) -> Result<Spelled> {
         }
         Err(WireFault::NoMemory) => bail!("no memory"),
     };
-    let is_request = matches!(said, Said::Request { .. });
+    let is_request = matches!(message.said(), Said::Request { .. });
     if !come_together(alloc, bytes, !is_request)? {
         return Ok(Spelled::Otherwise);
     }
-    let message = Message::new(alloc, said);
     let again = encode(alloc, &message)?;
     if again.as_slice() != bytes {
         return Ok(Spelled::Otherwise);

@@ -3,7 +3,7 @@ use px_entry::{Derivation, Entry, Gap, Table};
 use px_parts::{Part, Reader, Taken};
 use px_spelling::WireFault;
 use px_terms::Items;
-use px_wire::{Said, encode_full};
+use px_wire::{Message, SHARED, Said, encode, share};
 use std::alloc::Global;
 
 /// How many bytes a piece has.
@@ -25,6 +25,7 @@ enum Standing {
 // The parts that came.
 #[derive(Drop)]
 struct Gathered {
+    version: u8,
     ticket: u64,
     kinds: Option<Items<u8>>,
     entries: Items<Entry>,
@@ -80,6 +81,7 @@ pub fn come_together_at_each_cut(alloc: Global, bytes: &[u8], is_one: bool) -> R
 
 fn nothing(alloc: Global) -> Gathered {
     Gathered {
+        version: 0,
         ticket: 0,
         kinds: None,
         entries: Items::new(alloc),
@@ -110,14 +112,22 @@ fn put(gathered: &mut Gathered, part: Part) -> Result<Option<Standing>> {
     match part {
         Part::Held => return Ok(Some(Standing::Open)),
         Part::End => return Ok(Some(Standing::Whole)),
-        Part::Head { ticket, kinds, .. } => {
+        Part::Head {
+            version,
+            ticket,
+            kinds,
+        } => {
+            gathered.version = version;
             gathered.ticket = ticket;
             gathered.kinds = Some(kinds);
         }
         Part::Entry(entry) => gathered.entries.push(entry)?,
         Part::Drop(gap) => gathered.drops.push(gap)?,
         Part::Derivation(derivation) => gathered.derivations.push(derivation)?,
-        Part::Large { ticket, .. } => gathered.ticket = ticket,
+        Part::Large { version, ticket } => {
+            gathered.version = version;
+            gathered.ticket = ticket;
+        }
     }
     Ok(None)
 }
@@ -126,12 +136,26 @@ fn is_whole(alloc: Global, standing: Standing, gathered: Gathered, bytes: &[u8])
     match standing {
         Standing::Open => bail!("nothing is said of all bytes"),
         Standing::NoMessage => Ok(false),
-        Standing::Whole => Ok(encode_full(alloc, &said_of(gathered))?.as_slice() == bytes),
+        Standing::Whole => {
+            let message = message_of(alloc, gathered)?;
+            Ok(encode(alloc, &message)?.as_slice() == bytes)
+        }
     }
+}
+
+// The message of these parts, in their version.
+fn message_of(alloc: Global, gathered: Gathered) -> Result<Message> {
+    let version = gathered.version;
+    let message = Message::new(alloc, said_of(gathered));
+    if version == SHARED {
+        return Ok(share(message)?);
+    }
+    Ok(message)
 }
 
 fn said_of(gathered: Gathered) -> Said {
     let Gathered {
+        version: _,
         ticket,
         kinds,
         entries,

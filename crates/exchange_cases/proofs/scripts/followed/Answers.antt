@@ -2,5 +2,5 @@ use Rattle.std.specs.Prelude.{Some}
 use Rattle.px_pool.specs.ScriptLink.{talk_of}
 use Rattle.exchange_cases.proofs.scripts.followed.Goals as goal
 
-pub exchanged-requires-after_bounds : goal.exchanged-requires-after_bounds
-exchanged-requires-after_bounds g c κs within = c.new_links_are_in_step.ensures (Some (talk_of c.new-link.result)) c.new-link.ensures.fresh
+pub exchanged-requires-clause-step : goal.exchanged-requires-after_bounds
+exchanged-requires-clause-step g c κs within = c.new_links_are_in_step.ensures (Some (talk_of c.new-link.result)) c.new-link.ensures.fresh

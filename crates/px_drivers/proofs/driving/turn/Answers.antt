@@ -10,16 +10,16 @@ pub invariant_of-driver : goal.invariant_of-driver
 invariant_of-driver g c =
     let is : c.driver.inside.state ≡ Ready = ap (λ (d : DriverParts). d.state) c.driver.view_is ∙ c.requires in
     let more : counted c.joined.result ≡ counted c.driver.inside.receipts + counted c.publish-receipt.result = search rules in
-    answered_kept c.driver.inside.number (g.K.Link.told c.driver.inside.link) (g.K.Link.told c.exchange.new.link) (g.K.Link.count c.driver.inside.link) (g.K.Link.count c.exchange.new.link)
+    answered_kept c.driver.inside.number c.driver.inside.version (g.K.Link.told c.driver.inside.link) (g.K.Link.told c.exchange.new.link) (g.K.Link.count c.driver.inside.link) (g.K.Link.count c.exchange.new.link)
     c.driver.inside.first c.driver.inside.state c.driver.inside.kept (counted c.driver.inside.receipts) (counted c.joined.result) c.driver.inside.past.losses
     (counted c.driver.inside.past.receipts) (counted c.publish-receipt.result) (job_tree c.args.job) (table_from c.in-Ok.piece.entries c.in-Ok.piece.drops)
-    is (ready_stands _ is c.driver.invariant) c.driver.invariant.backed c.in-Ok.ensures.answered c.in-Ok.ensures.step c.in-Ok.ensures.faults more
+    c.driver.invariant.version is (ready_stands _ is c.driver.invariant) c.driver.invariant.backed c.in-Ok.ensures.answered c.in-Ok.ensures.step c.in-Ok.ensures.faults more
     (one_at_most c.publish-receipt.result c.publish-receipt.ensures)
 
 pub invariant_of-driver-in-Err : goal.invariant_of-driver-in-Err
 invariant_of-driver-in-Err g c =
     let is : c.driver.inside.state ≡ Ready = ap (λ (d : DriverParts). d.state) c.driver.view_is ∙ c.requires in
-    refused_kept c.driver.inside.number (g.K.Link.told c.driver.inside.link) (g.K.Link.told c.exchange.new.link) (g.K.Link.count c.driver.inside.link) (g.K.Link.count c.exchange.new.link)
+    refused_kept c.driver.inside.number c.driver.inside.version (g.K.Link.told c.driver.inside.link) (g.K.Link.told c.exchange.new.link) (g.K.Link.count c.driver.inside.link) (g.K.Link.count c.exchange.new.link)
     c.driver.inside.first c.args.job c.in-Err.why (counted c.driver.inside.receipts) c.driver.inside.past.losses (counted c.driver.inside.past.receipts)
-    (ready_stands _ is c.driver.invariant) c.driver.invariant.backed (c.in-Err.ensures.cause c.in-Err.why refl)
+    c.driver.invariant.version (ready_stands _ is c.driver.invariant) c.driver.invariant.backed (c.in-Err.ensures.cause c.in-Err.why refl)
     c.in-Err.ensures.faults

@@ -5,4 +5,4 @@ use Rattle.px_parts.proofs.steps.count_of_entries.Goals as goal
 pub returns-in_err-left-clause-stuck : goal.returns-in_err-left-clause-stuck
 returns-in_err-left-clause-stuck c told =
     let p = err_from_is_err_and c.from_residual.result c.from_residual.ensures.1 in
-    entry_count_stuck c.in_err-left.field-0.0 c.args.bytes.now c.in_err-left.ensures.reads (handed_on c.from_residual.result c.in_err-left.field-0.0 p.0 p.1 p.2 told)
+    entry_count_stuck c.args.terms.now c.in_err-left.field-0.0 c.args.bytes.now c.in_err-left.ensures.reads (handed_on c.from_residual.result c.in_err-left.field-0.0 p.0 p.1 p.2 told)

@@ -12,5 +12,5 @@ returns-in_err-entries-clause-fault c =
     let p = err_from_is_err_and c.from_residual-in_err-entries.result c.from_residual-in_err-entries.ensures.1 in
     let e = c.in_err-entries.field-0.0 in
     let spells : Spells c.args.message.now (reply c.args.job.now.ticket c.args.job.now.kinds c.in_ok-table.field-0.table c.as_slice.result.now) = search rules in
-    of_err c.from_residual-in_err-entries.result e (λ w. IsFaultIn (job_tree c.args.job.now) c.args.message.now w) (p.1 ∙ ap (λ z. Err z) p.2)
+    of_err c.from_residual-in_err-entries.result e (λ w. IsFaultIn 1 (job_tree c.args.job.now) c.args.message.now w) (p.1 ∙ ap (λ z. Err z) p.2)
     (refusal_is_fault (job_tree c.args.job.now) c.args.message.now c.in_ok-table.field-0.table c.as_slice.result.now e spells (c.in_err-entries.ensures.refused e refl))

@@ -12,4 +12,4 @@ use Rattle.px_pool.proofs.answers.reply_in.Goals as goal
 pub returns-in-Err-NotAMessage-clause-fault : goal.returns-in-Err-NotAMessage-clause-fault
 returns-in-Err-NotAMessage-clause-fault c =
     let none : IsDecoded c.args.message.now (Err NotAMessage) = subst (λ f. IsDecoded c.args.message.now (Err f)) c.in-Err-NotAMessage.field-0-is c.in-Err-NotAMessage.ensures.spelled in
-    of_lost Frame (λ w. IsFaultIn (job_tree c.args.job.now) c.args.message.now w) (names_none c.args.message.now none)
+    of_lost Frame (λ w. IsFaultIn 1 (job_tree c.args.job.now) c.args.message.now w) (names_none c.args.message.now none)

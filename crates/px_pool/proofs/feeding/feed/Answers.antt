@@ -6,11 +6,11 @@ use Rattle.px_pool.proofs.FeedingLemmas.{feeding_begins, one_more, opens_still, 
 use Rattle.px_pool.proofs.feeding.feed.Goals as goal
 
 pub loop-answer-init : goal.loop-answer-init
-loop-answer-init c bytes left parts given standing within = feeding_begins (job_tree c.args.job.now) bytes c.args.piece.now left parts c.args.reader.now c.args.standing given standing within
+loop-answer-init c bytes left parts given standing within = feeding_begins c.args.version (job_tree c.args.job.now) bytes c.args.piece.now left parts c.args.reader.now c.args.standing given standing within
 
 pub loop-answer-preserved : goal.loop-answer-preserved
 loop-answer-preserved c bytes left parts given standing within =
-    one_more (job_tree c.args.job.now) (bytes ++ c.args.piece.now) (left - length c.args.piece.now) c.loop-answer.rest.now c.loop-answer.reader c.take.new.self c.loop-answer.standing
+    one_more c.args.version (job_tree c.args.job.now) (bytes ++ c.args.piece.now) (left - length c.args.piece.now) c.loop-answer.rest.now c.loop-answer.reader c.take.new.self c.loop-answer.standing
     (c.loop-answer.invariant bytes left parts given standing within)
     c.in-Ok.answer c.in-Ok.answer.part c.in-More.next refl c.in-Ok.ensures c.in-More.ensures.turn c.in-More.ensures.standing
 
@@ -19,18 +19,18 @@ loop-answer-smaller c = parts_follow.fewer c.loop-answer.rest.now c.loop-answer.
 
 pub returns-in-Held : goal.returns-in-Held
 returns-in-Held c bytes left parts given standing within =
-    opens_still (job_tree c.args.job.now) (bytes ++ c.args.piece.now) (left - length c.args.piece.now) c.loop-answer.rest.now c.loop-answer.reader c.take.new.self c.loop-answer.standing
+    opens_still c.args.version (job_tree c.args.job.now) (bytes ++ c.args.piece.now) (left - length c.args.piece.now) c.loop-answer.rest.now c.loop-answer.reader c.take.new.self c.loop-answer.standing
     (c.loop-answer.invariant bytes left parts given standing within)
     c.in-Ok.answer c.in-Held.last c.in-Held.ensures.turn c.in-Ok.ensures c.in-Held.ensures.standing
 
 pub returns-in-Ended : goal.returns-in-Ended
 returns-in-Ended c bytes left parts given standing within =
-    ends (job_tree c.args.job.now) (bytes ++ c.args.piece.now) (left - length c.args.piece.now) c.loop-answer.rest.now c.loop-answer.reader c.take.new.self c.loop-answer.standing
+    ends c.args.version (job_tree c.args.job.now) (bytes ++ c.args.piece.now) (left - length c.args.piece.now) c.loop-answer.rest.now c.loop-answer.reader c.take.new.self c.loop-answer.standing
     (c.loop-answer.invariant bytes left parts given standing within)
-    c.in-Ok.answer c.in-Ended.last c.finish.result c.in-Ended.ensures.turn c.in-Ok.ensures c.in-Ended.ensures.standing (c.finish.ensures (job_tree c.args.job.now))
+    c.in-Ok.answer c.in-Ended.last c.finish.result c.in-Ended.ensures.turn c.in-Ok.ensures c.in-Ended.ensures.standing (c.finish.ensures c.args.version (job_tree c.args.job.now))
 
 pub returns-in-Err-NotAMessage : goal.returns-in-Err-NotAMessage
 returns-in-Err-NotAMessage c bytes left parts given standing within =
-    refuses_all (job_tree c.args.job.now) (bytes ++ c.args.piece.now) (left - length c.args.piece.now) c.loop-answer.rest.now c.loop-answer.reader c.take.new.self c.loop-answer.standing
+    refuses_all c.args.version (job_tree c.args.job.now) (bytes ++ c.args.piece.now) (left - length c.args.piece.now) c.loop-answer.rest.now c.loop-answer.reader c.take.new.self c.loop-answer.standing
     (c.loop-answer.invariant bytes left parts given standing within)
     (subst (λ f. IsTaken c.loop-answer.reader c.loop-answer.rest.now (Err f) c.take.new.self) c.in-Err-NotAMessage.field-0-is c.in-Err-NotAMessage.ensures)

@@ -6,7 +6,7 @@ use Rattle.px_pool.proofs.GatheringLemmas.{out_of_memory, gathered_entry}
 use Rattle.px_pool.proofs.gathering.add_entry.Goals as goal
 
 pub returns-in_default : goal.returns-in_default
-returns-in_default c parts opened = out_of_memory (job_tree c.args.job.now) (parts ++ P.Entry c.args.entry ∷ [])
+returns-in_default c v parts opened = out_of_memory (job_tree c.args.job.now) v (parts ++ P.Entry c.args.entry ∷ [])
 
 pub returns : goal.returns
 returns c es gs ds gathered =

@@ -6,12 +6,12 @@ use Rattle.px_pool.proofs.GatheringLemmas.{none_is, out_of_memory, gathered_deri
 use Rattle.px_pool.proofs.gathering.derive.Goals as goal
 
 pub returns-in_default : goal.returns-in_default
-returns-in_default c parts opened =
+returns-in_default c v parts opened =
     let g = c.args.gathering in
-    too_many (job_tree c.args.job.now) parts g c.args.derivation.now (none_is c.next.result (g.pending.items ≡ []) c.in_default.not-Some c.next.ensures.none) opened
+    too_many (job_tree c.args.job.now) v parts g c.args.derivation.now (none_is c.next.result (g.pending.items ≡ []) c.in_default.not-Some c.next.ensures.none) opened
 
 pub returns-in_default-judge : goal.returns-in_default-judge
-returns-in_default-judge c parts opened = out_of_memory (job_tree c.args.job.now) (parts ++ P.Derivation c.args.derivation.now ∷ [])
+returns-in_default-judge c v parts opened = out_of_memory (job_tree c.args.job.now) v (parts ++ P.Derivation c.args.derivation.now ∷ [])
 
 pub returns : goal.returns
 returns c es gs ds gathered =

@@ -7,7 +7,7 @@ use Rattle.px_pool.proofs.replies.read_parts.Given as goal
 abbrev pub invariant-loop-came : goal.invariant-loop-came
 invariant-loop-came g l = record {
   room : length l.piece ≡ 4096;
-  coming : IsComing (job_tree l.fn.job) (g.K.Link.told l.fn.link) (g.K.Link.told l.link) l.fn.length l.came l.reader l.fed;
+  coming : IsComing l.fn.version (job_tree l.fn.job) (g.K.Link.told l.fn.link) (g.K.Link.told l.link) l.fn.length l.came l.reader l.fed;
   word : IsWordKept g.K.Word.Honesty.says (g.K.Link.told l.fn.link) → IsWordKept g.K.Word.Honesty.says (g.K.Link.told l.link);
   count : g.K.Link.count l.link ≡ g.K.Link.count l.fn.link;
 }

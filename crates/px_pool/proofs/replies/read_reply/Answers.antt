@@ -12,7 +12,7 @@ pub returns-in_err-length-clause-replied : goal.returns-in_err-length-clause-rep
 returns-in_err-length-clause-replied g c =
     let p = err_from_is_err_and c.from_residual.result c.from_residual.ensures.1 in
     let e = c.in_err-length.field-0.0 in
-    subst (λ r. IsReplied (job_tree c.args.job.now) (g.K.Link.told c.args.link.now) (g.K.Link.told c.read_length.new.link) [] r) (sym (p.1 ∙ ap (λ z. Err z) p.2)) (inl (c.in_err-length.ensures.unanswered e refl))
+    subst (λ r. IsReplied c.args.version (job_tree c.args.job.now) (g.K.Link.told c.args.link.now) (g.K.Link.told c.read_length.new.link) [] r) (sym (p.1 ∙ ap (λ z. Err z) p.2)) (inl (c.in_err-length.ensures.unanswered e refl))
 
 pub returns-in_err-length-clause-faults : goal.returns-in_err-length-clause-faults
 returns-in_err-length-clause-faults g c =
@@ -22,7 +22,7 @@ returns-in_err-length-clause-faults g c =
 
 pub returns-clause-replied : goal.returns-clause-replied
 returns-clause-replied g c =
-    replied (job_tree c.args.job.now) (g.K.Link.told c.args.link.now) (g.K.Link.told c.read_length.new.link) (g.K.Link.told c.read_parts.new.link) c.in_ok-length.length c.in_ok-length.ensures.few c.in_ok-length.ensures.given
+    replied c.args.version (job_tree c.args.job.now) (g.K.Link.told c.args.link.now) (g.K.Link.told c.read_length.new.link) (g.K.Link.told c.read_parts.new.link) c.in_ok-length.length c.in_ok-length.ensures.few c.in_ok-length.ensures.given
     c.read_parts.result c.read_parts.ensures.read
 
 pub returns-clause-word : goal.returns-clause-word

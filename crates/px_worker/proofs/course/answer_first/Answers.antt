@@ -17,9 +17,9 @@ returns-in_err-answer_message-in-Ok-Whole-clause-stops g c = λ fault h.
     let new = g.K.Sink.told c.answer_message.new.sink in
     let e = c.in_err-answer_message-in-Ok-Whole.field-0.0 in
     let fed = subst (λ f. IsFed c.args.course.now.feeder c.args.piece.now (Ok f) c.feed.new.self) c.in-Ok-Whole.field-0-is c.in-Ok-Whole.ensures in
-    let speaks = subst (λ m. Speaks kinds m c.args.course.now.place old new (Err e)) c.deref.ensures.value c.in_err-answer_message-in-Ok-Whole.ensures.speaks in
-    subst (λ f. StopsAfter kinds c.args.course.now c.args.piece.now old new f) (same_error c.from_residual.result e fault (p.1 ∙ ap (λ z. Err z) p.2) h)
-    (stops_whole c.one_spelling.ensures kinds c.args.course.now c.feed.new.self c.args.piece.now c.in-Ok-Whole.message c.in-Ok-Whole.taken old new e fed speaks)
+    let speaks = subst (λ m. Speaks c.args.known kinds m c.args.course.now.place old new (Err e)) c.deref.ensures.value c.in_err-answer_message-in-Ok-Whole.ensures.speaks in
+    subst (λ f. StopsAfter c.args.known kinds c.args.course.now c.args.piece.now old new f) (same_error c.from_residual.result e fault (p.1 ∙ ap (λ z. Err z) p.2) h)
+    (stops_whole c.one_spelling.ensures c.args.known kinds c.args.course.now c.feed.new.self c.args.piece.now c.in-Ok-Whole.message c.in-Ok-Whole.taken old new e fed speaks)
 
 pub returns-in-Ok-Held-clause-on : goal.returns-in-Ok-Held-clause-on
 returns-in-Ok-Held-clause-on g c =
@@ -27,8 +27,8 @@ returns-in-Ok-Held-clause-on g c =
     let old = g.K.Sink.told c.args.sink.now in
     let after : Course = record { feeder = c.feed.new.self; place = c.args.course.now.place; begun = true } in
     let fed = subst (λ f. IsFed c.args.course.now.feeder c.args.piece.now (Ok f) c.feed.new.self) c.in-Ok-Held.field-0-is c.in-Ok-Held.ensures in
-    subst (λ l. OnAfter kinds c.args.course.now after l old old) (sym (take-length c.args.piece.now))
-    (on_held kinds c.args.course.now after c.feed.new.self c.args.piece.now old fed c.requires.some refl refl refl)
+    subst (λ l. OnAfter c.args.known kinds c.args.course.now after l old old) (sym (take-length c.args.piece.now))
+    (on_held c.args.known kinds c.args.course.now after c.feed.new.self c.args.piece.now old fed c.requires.some refl refl refl)
 
 pub returns-in_ok-answer_message-in-Ok-Whole-clause-on : goal.returns-in_ok-answer_message-in-Ok-Whole-clause-on
 returns-in_ok-answer_message-in-Ok-Whole-clause-on g c =
@@ -37,9 +37,9 @@ returns-in_ok-answer_message-in-Ok-Whole-clause-on g c =
     let new = g.K.Sink.told c.answer_message.new.sink in
     let after : Course = record { feeder = c.feed.new.self; place = c.saturating_add-course.result; begun = false } in
     let fed = subst (λ f. IsFed c.args.course.now.feeder c.args.piece.now (Ok f) c.feed.new.self) c.in-Ok-Whole.field-0-is c.in-Ok-Whole.ensures in
-    let speaks = subst (λ m. Speaks kinds m c.args.course.now.place old new (Ok tt)) c.deref.ensures.value c.in_ok-answer_message-in-Ok-Whole.ensures.speaks in
+    let speaks = subst (λ m. Speaks c.args.known kinds m c.args.course.now.place old new (Ok tt)) c.deref.ensures.value c.in_ok-answer_message-in-Ok-Whole.ensures.speaks in
     let sized : 4 + c.len.result ≡ 4 + length c.in-Ok-Whole.message.items = search rules in
-    on_whole kinds c.args.course.now after c.feed.new.self c.args.piece.now c.in-Ok-Whole.message c.in-Ok-Whole.taken (4 + c.len.result) old new fed speaks refl c.saturating_add-course.ensures sized refl
+    on_whole c.args.known kinds c.args.course.now after c.feed.new.self c.args.piece.now c.in-Ok-Whole.message c.in-Ok-Whole.taken (4 + c.len.result) old new fed speaks refl c.saturating_add-course.ensures sized refl
 
 pub returns-in-Err-TooLong-clause-stops : goal.returns-in-Err-TooLong-clause-stops
 returns-in-Err-TooLong-clause-stops g c = λ fault h.
@@ -47,16 +47,16 @@ returns-in-Err-TooLong-clause-stops g c = λ fault h.
     let old = g.K.Sink.told c.args.sink.now in
     let given : Result ℕ AFault = Err (Bad c.args.course.now.place) in
     let fed = subst (λ e. IsFed c.args.course.now.feeder c.args.piece.now (Err e) c.feed.new.self) c.in-Err-TooLong.field-0-is c.in-Err-TooLong.ensures in
-    subst (λ f. StopsAfter kinds c.args.course.now c.args.piece.now old old f) (same_error given (Bad c.args.course.now.place) fault refl h)
-    (stops_long kinds c.args.course.now c.feed.new.self c.args.piece.now old c.in-Err-TooLong.field-0-0 fed)
+    subst (λ f. StopsAfter c.args.known kinds c.args.course.now c.args.piece.now old old f) (same_error given (Bad c.args.course.now.place) fault refl h)
+    (stops_long c.args.known kinds c.args.course.now c.feed.new.self c.args.piece.now old c.in-Err-TooLong.field-0-0 fed)
 
 pub returns-in-Err-NoMemory-clause-stops : goal.returns-in-Err-NoMemory-clause-stops
 returns-in-Err-NoMemory-clause-stops g c = λ fault h.
     let kinds = map (λ b. (goal.Domain-dyn g (b.vtable, b.value)).number b.value) c.args.domains.now.items in
     let old = g.K.Sink.told c.args.sink.now in
     let given : Result ℕ AFault = Err NoMemory in
-    subst (λ f. StopsAfter kinds c.args.course.now c.args.piece.now old old f) (same_error given NoMemory fault refl h)
-    (stops_memory kinds c.args.course.now c.args.piece.now old)
+    subst (λ f. StopsAfter c.args.known kinds c.args.course.now c.args.piece.now old old f) (same_error given NoMemory fault refl h)
+    (stops_memory c.args.known kinds c.args.course.now c.args.piece.now old)
 
 pub returns-in_ok-answer_message-in-Ok-Whole-clause-taken : goal.returns-in_ok-answer_message-in-Ok-Whole-clause-taken
 returns-in_ok-answer_message-in-Ok-Whole-clause-taken g c =

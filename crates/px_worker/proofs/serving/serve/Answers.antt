@@ -7,8 +7,8 @@ use Rattle.px_worker.proofs.serving.serve.Goals as goal
 
 pub loop-init : goal.loop-init
 loop-init g c = record {
-  stands = stand_start (map (λ b. (goal.Domain-dyn g (b.vtable, b.value)).number b.value) c.args.domains.now.items) (g.I.Source.told c.args.source.now) (g.K.Sink.told c.args.sink.now)
-      c.new-course.result (c.new-course.ensures.on (map (λ b. (goal.Domain-dyn g (b.vtable, b.value)).number b.value) c.args.domains.now.items)) c.new-course.ensures.part;
+  stands = stand_start 2 (map (λ b. (goal.Domain-dyn g (b.vtable, b.value)).number b.value) c.args.domains.now.items) (g.I.Source.told c.args.source.now) (g.K.Sink.told c.args.sink.now)
+      c.new-course.result (c.new-course.ensures.on 2 (map (λ b. (goal.Domain-dyn g (b.vtable, b.value)).number b.value) c.args.domains.now.items)) c.new-course.ensures.part;
   read_count = refl;
   write_count = refl;
   clear = c.requires;
@@ -25,8 +25,8 @@ returns-in_err-serve_piece-clause-serves g c =
     let k0 = g.K.Sink.told c.args.sink.now in
     let k1 = g.K.Sink.told c.loop.sink in
     let k2 = g.K.Sink.told c.serve_piece.new.sink in
-    let turn = subst (λ k. IsTurn k c.loop.course c.serve_piece.new.course s1 s2 k1 k2 (Err c.in_err-serve_piece.field-0.0)) c.loop.invariant.kinds c.in_err-serve_piece.ensures.turn in
-    subst (λ r. Serves kinds s0 s2 k0 k2 r) (sym (p.1 ∙ ap (λ z. Err z) p.2)) (turn s0 k0 c.loop.invariant.stands)
+    let turn = subst (λ k. IsTurn 2 k c.loop.course c.serve_piece.new.course s1 s2 k1 k2 (Err c.in_err-serve_piece.field-0.0)) c.loop.invariant.kinds c.in_err-serve_piece.ensures.turn in
+    subst (λ r. Serves 2 kinds s0 s2 k0 k2 r) (sym (p.1 ∙ ap (λ z. Err z) p.2)) (turn s0 k0 c.loop.invariant.stands)
 
 pub returns-then-branch-clause-serves : goal.returns-then-branch-clause-serves
 returns-then-branch-clause-serves g c =
@@ -38,8 +38,8 @@ returns-then-branch-clause-serves g c =
     let k0 = g.K.Sink.told c.args.sink.now in
     let k1 = g.K.Sink.told c.loop.sink in
     let k2 = g.K.Sink.told c.serve_piece.new.sink in
-    let end : IsTurn kinds' c.loop.course c.serve_piece.new.course s1 s2 k1 k2 (Ok true) =
-    subst (λ r. IsTurn kinds' c.loop.course c.serve_piece.new.course s1 s2 k1 k2 (Ok r)) c.if-branch.true c.in_ok-serve_piece.ensures.turn in
-    let turn : IsTurn kinds c.loop.course c.serve_piece.new.course s1 s2 k1 k2 (Ok true) =
-    subst (λ k. IsTurn k c.loop.course c.serve_piece.new.course s1 s2 k1 k2 (Ok true)) c.loop.invariant.kinds end in
+    let end : IsTurn 2 kinds' c.loop.course c.serve_piece.new.course s1 s2 k1 k2 (Ok true) =
+    subst (λ r. IsTurn 2 kinds' c.loop.course c.serve_piece.new.course s1 s2 k1 k2 (Ok r)) c.if-branch.true c.in_ok-serve_piece.ensures.turn in
+    let turn : IsTurn 2 kinds c.loop.course c.serve_piece.new.course s1 s2 k1 k2 (Ok true) =
+    subst (λ k. IsTurn 2 k c.loop.course c.serve_piece.new.course s1 s2 k1 k2 (Ok true)) c.loop.invariant.kinds end in
     turn s0 k0 c.loop.invariant.stands

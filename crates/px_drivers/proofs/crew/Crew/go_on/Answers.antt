@@ -1,8 +1,9 @@
-use Rattle.std.proofs.Common.{refl, arith}
+use Rattle.std.proofs.Common.{refl, arith, ap, sym, ◌∙◌}
 use Rattle.px_drivers.specs.declared.ends.Leaving.TheVariants.{Losses, NoMemory}
-use Rattle.px_drivers.specs.Drivers.{counted, published}
+use Rattle.px_drivers.specs.Drivers.{DriverParts, counted, published, version_after}
 use Rattle.px_drivers.specs.Crews.{standing}
 use Rattle.px_drivers.proofs.CrewLemmas.{joined_last, left_otherwise, retired, published_last}
+use Rattle.px_drivers.proofs.VersionLemmas.{next_is_known, goes_on_ready, goes_not, goes_on_again}
 use Rattle.px_drivers.proofs.crew.Crew.go_on.Goals as goal
 
 pub returns-in-Ready-clause-published : goal.returns-in-Ready-clause-published
@@ -43,3 +44,28 @@ returns-else-past-eq-MOST_LOSSES-clause-account g c a h =
     (standing (g.S.Spawner.told c.end-past-in-Lost.new.spawner) (g.S.Spawner.links c.end-past-in-Lost.new.spawner) (g.S.Spawner.count c.end-past-in-Lost.new.spawner))
     c.args.driver c.args.self.now.drivers c.args.self.now.receipts c.args.self.now.left (counted c.end-past-in-Lost.result.receipts) c.end-past-in-Lost.result.losses
     c.end-past-in-Lost.ensures.kept c.end-past-in-Lost.ensures.fewer c.end-past-in-Lost.ensures.count c.end-past-in-Lost.ensures.given c.end-past-in-Lost.ensures.losses c.end-past-in-Lost.ensures.receipts a h)
+
+-- ---- the version
+
+pub returns-in-Ready-clause-versions : goal.returns-in-Ready-clause-versions
+returns-in-Ready-clause-versions g c =
+    goes_on_ready c.args.driver c.args.self.now.drivers c.join.new.self.drivers (sym c.state.ensures ∙ c.in-Ready.is) c.join.ensures.drivers
+
+pub returns-in-NoMemory-clause-versions : goal.returns-in-NoMemory-clause-versions
+returns-in-NoMemory-clause-versions g c = goes_not c.args.driver c.args.self.now.drivers c.leave.new.self.drivers c.leave.ensures.drivers
+
+pub returns-then-past-eq-MOST_LOSSES-clause-versions : goal.returns-then-past-eq-MOST_LOSSES-clause-versions
+returns-then-past-eq-MOST_LOSSES-clause-versions g c =
+    goes_not c.args.driver c.args.self.now.drivers c.leave-then-past-eq-MOST_LOSSES.new.self.drivers c.leave-then-past-eq-MOST_LOSSES.ensures.drivers
+
+pub hire-requires-clause-version : goal.hire-requires-clause-version
+hire-requires-clause-version g c κs bounds =
+    next_is_known c.args.driver.version c.next_version-version.result c.args.driver.state
+    (c.next_version-version.ensures ∙ ap (λ v. version_after v c.state.result) (ap (λ (d : DriverParts). d.version) c.driver.view_is) ∙ ap (λ s. version_after c.args.driver.version s) c.state.ensures)
+    c.end-past-in-Lost.ensures.kept.version
+
+pub returns-else-past-eq-MOST_LOSSES-clause-versions : goal.returns-else-past-eq-MOST_LOSSES-clause-versions
+returns-else-past-eq-MOST_LOSSES-clause-versions g c =
+    goes_on_again c.args.driver c.args.self.now.drivers c.hire.new.self.drivers c.hire.result c.driver.inside.number c.next_version-version.result (ap (λ (d : DriverParts). d.number) c.driver.view_is)
+    (c.next_version-version.ensures ∙ ap (λ v. version_after v c.state.result) (ap (λ (d : DriverParts). d.version) c.driver.view_is) ∙ ap (λ s. version_after c.args.driver.version s) c.state.ensures)
+    c.hire.ensures.asked c.hire.ensures.left

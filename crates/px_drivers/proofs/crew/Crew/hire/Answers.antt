@@ -3,6 +3,7 @@ use Rattle.px_pool.specs.Starts.{TellsAlike}
 use Rattle.px_drivers.specs.Drivers.{DriverParts, counted, published}
 use Rattle.px_drivers.specs.Crews.{standing}
 use Rattle.px_drivers.proofs.CrewLemmas.{hired, not_hired, published_last}
+use Rattle.px_drivers.proofs.VersionLemmas.{joins}
 use Rattle.px_drivers.proofs.crew.Crew.hire.Goals as goal
 
 pub returns-in-Ok-clause-published : goal.returns-in-Ok-clause-published
@@ -28,3 +29,8 @@ returns-in-Err-clause-account g c =
     c.args.self.now.drivers c.leave.new.self.drivers c.args.self.now.receipts c.leave.new.self.receipts c.args.self.now.left c.leave.new.self.left
     (counted c.args.past.receipts) c.args.past.losses c.args.number c.leave.ensures.drivers c.leave.ensures.receipts c.leave.ensures.left c.requires.losses
     c.in-Err.ensures.same c.in-Err.ensures.cause.never_falls c.in-Err.ensures.cause.failed c.in-Err.ensures.unstarted
+
+pub returns-in-Ok-clause-asked : goal.returns-in-Ok-clause-asked
+returns-in-Ok-clause-asked g c yes =
+    joins c.again.result c.args.self.now.drivers c.join.new.self.drivers c.args.number c.args.version c.join.ensures.drivers
+    (ap (λ (x : DriverParts). x.number) c.again.ensures) (ap (λ (x : DriverParts). x.version) c.again.ensures)

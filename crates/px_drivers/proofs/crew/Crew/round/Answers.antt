@@ -12,3 +12,11 @@ returns-clause-account g c a b =
     (subst (λ (x : CrewParts). AreDriven x.drivers c.round.new.drivers) c.self.view_is driven)
     (written_back c.self.inside.drivers.items c.round.new.drivers c.self.inside.drivers.len (sym c.deref_mut.ensures.len ∙ ap length lent) driven.many)
     (ap (λ (x : CrewParts). x.receipts) c.self.view_is) (ap (λ (x : CrewParts). x.left) c.self.view_is)
+
+pub returns-clause-driven : goal.returns-clause-driven
+returns-clause-driven g c =
+    let lent : c.deref_mut.result.now ≡ c.self.inside.drivers.items = c.deref_mut.ensures.value in
+    let driven : AreDriven c.self.inside.drivers.items c.round.new.drivers = subst (λ l. AreDriven l c.round.new.drivers) lent c.round.ensures in
+    subst (λ l. AreDriven c.args.self.now.drivers l)
+    (sym (written_back c.self.inside.drivers.items c.round.new.drivers c.self.inside.drivers.len (sym c.deref_mut.ensures.len ∙ ap length lent) driven.many))
+    (subst (λ (x : CrewParts). AreDriven x.drivers c.round.new.drivers) c.self.view_is driven)

@@ -4,4 +4,4 @@ use Rattle.px_drivers.proofs.driver.Driver.again.Goals as goal
 
 pub invariant_of-result : goal.invariant_of-result
 invariant_of-result g c =
-    kept_new c.args.number (g.K.Link.told c.args.link) (g.K.Link.count c.args.link) c.faults-first.result c.args.past.losses (counted c.args.past.receipts) c.faults-first.ensures c.requires
+    kept_new c.args.number c.args.version (g.K.Link.told c.args.link) (g.K.Link.count c.args.link) c.faults-first.result c.args.past.losses (counted c.args.past.receipts) c.requires.version c.faults-first.ensures c.requires.fresh

@@ -24,5 +24,5 @@ returns-clause-given g c =
 
 pub returns-clause-word : goal.returns-clause-word
 returns-clause-word g c =
-    word_kept c.replies_are_analyses.ensures c.self.inside.kinds c.self.inside.sent.items c.self.inside.written.bytes.items (c.self.inside.given + c.min-count.result)
+    word_kept c.replies_are_analyses.ensures c.self.inside.known c.self.inside.kinds c.self.inside.sent.items c.self.inside.written.bytes.items (c.self.inside.given + c.min-count.result)
     (c.self.inside.ended || c.is_end.result) c.self.invariant.begun

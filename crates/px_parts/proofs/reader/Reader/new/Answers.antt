@@ -1,5 +1,5 @@
 use Rattle.std.proofs.Common.{arith}
-use Rattle.px_parts.specs.declared.place.Place.TheVariants.{Start}
+use Rattle.px_parts.specs.Places.{Start}
 use Rattle.px_parts.proofs.reader.Reader.new.Goals as goal
 
 pub invariant_of-result : goal.invariant_of-result
