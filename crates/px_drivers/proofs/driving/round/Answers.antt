@@ -18,14 +18,17 @@ for_each_mut-requires-send-T g c κs within =
     (struct_send (shape (inside.the_type (param 1 g.row.K) (param 2 g.row.L) (param 3 g.row.K-Word) g.K.Link g.K.Word.Honesty g.L.Ledger)) (
       search sendable depth 20,
       (
-        k,
+        search sendable depth 20,
         (
-          search sendable depth 20,
+          k,
           (
             search sendable depth 20,
             (
-              search (job_send, sendable) depth 20,
-              (search (share.the_send, sendable) depth 60, (search (share.the_send, sendable) depth 60, tt)),
+              search sendable depth 20,
+              (
+                search (job_send, sendable) depth 20,
+                (search (share.the_send, sendable) depth 60, (search (share.the_send, sendable) depth 60, tt)),
+              ),
             ),
           ),
         ),
