@@ -49,7 +49,7 @@ returns-else-past-eq-MOST_LOSSES-clause-account g c a h =
 
 pub returns-in-Ready-clause-versions : goal.returns-in-Ready-clause-versions
 returns-in-Ready-clause-versions g c =
-    goes_on_ready c.args.driver c.args.self.now.drivers c.join.new.self.drivers (sym c.state.ensures ∙ c.in-Ready.is) c.join.ensures.drivers
+    goes_on_ready c.args.driver c.args.self.now.drivers c.join.new.self.drivers (sym c.state-2.ensures ∙ c.in-Ready.is) c.join.ensures.drivers
 
 pub returns-in-NoMemory-clause-versions : goal.returns-in-NoMemory-clause-versions
 returns-in-NoMemory-clause-versions g c = goes_not c.args.driver c.args.self.now.drivers c.leave.new.self.drivers c.leave.ensures.drivers

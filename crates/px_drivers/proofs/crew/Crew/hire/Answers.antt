@@ -31,6 +31,6 @@ returns-in-Err-clause-account g c =
     c.in-Err.ensures.same c.in-Err.ensures.cause.never_falls c.in-Err.ensures.cause.failed c.in-Err.ensures.unstarted
 
 pub returns-in-Ok-clause-asked : goal.returns-in-Ok-clause-asked
-returns-in-Ok-clause-asked g c yes =
+returns-in-Ok-clause-asked g c started =
     joins c.again.result c.args.self.now.drivers c.join.new.self.drivers c.args.number c.args.version c.join.ensures.drivers
     (ap (λ (x : DriverParts). x.number) c.again.ensures) (ap (λ (x : DriverParts). x.version) c.again.ensures)
