@@ -1,5 +1,5 @@
 -- The statements of a body, by the parts that are made of them.
-use Rattle.std.proofs.Common.{◌≡◌, ◌≢◌, ◌∙◌, refl, sym, ap, subst, Bool, true, false, ◌&&◌, ◌||◌, not, List, [], ◌∷◌, ◌++◌, length, Option, Some, None, Result, Ok, Err, OnOk, arith}
+use Rattle.std.proofs.Common.{◌≡◌, ◌≢◌, ◌∙◌, refl, sym, ap, subst, ℕ, Bool, true, false, ◌&&◌, ◌||◌, not, List, [], ◌∷◌, ◌++◌, length, Option, Some, None, Result, Ok, Err, OnOk, arith}
 use Rattle.std.specs.Prelude.{codes, if◌then◌else◌}
 use Rattle.px_base.specs.declared.trace.Site.{Site}
 use Rattle.px_syntax.specs.TypedTree as T
@@ -10,13 +10,13 @@ use Rattle.px_real_expressions.specs.ExpressionTree.{ExpressionTree}
 use Rattle.px_real_declarations.specs.DeclarationTree.{DeclarationTree}
 use Rattle.px_real_types.specs.declared.shape.ProfileType.{ProfileType}
 use Rattle.px_real_effects.specs.Effects.{performed, returned, argument_of}
-use Rattle.px_real_statements.specs.StatementTree.{StatementTree, StatementTrees, block, choose, choose_else, while_loop, do_loop, for_loop}
+use Rattle.px_real_statements.specs.StatementTree.{LabelTree, StatementTree, StatementTrees, block, choose, choose_else, while_loop, do_loop, for_loop, labelled}
 use Rattle.px_real_values.specs.Operands.{stop}
 use Rattle.px_real_bodies.specs.Places.{Function, Place, within, outside_of_it, Walk, without_statements, Walked}
 use Rattle.px_real_bodies.specs.Phrases.{expression_in, declaration_in}
 use Rattle.px_real_bodies.specs.Values.{env, decided, decided_if}
 use Rattle.px_real_bodies.specs.Declarations.{declared}
-use Rattle.px_real_bodies.specs.Statements.{breaks, continues, one, block_of, no_statement, ended, IsScoped, is_never, stopping, unread_there, given_back, acted, acted_if, phrased, phrased_if, done, all_done}
+use Rattle.px_real_bodies.specs.Statements.{breaks, continues, label_stop, one, block_of, no_statement, ended, IsScoped, is_never, stopping, unread_there, given_back, acted, acted_if, phrased, phrased_if, done, all_done}
 use Rattle.px_real_bodies.proofs.WalkLemmas.{walk, walks, walks_as, or_walked, one_walked, walked_none, walked_trees, walked_after}
 
 -- what was walked in a scope of its own, as a block
@@ -162,3 +162,17 @@ module _ {E : Type 0} (r : Result Unit E) (f : Function) (loop : Bool) (at here 
       ∙ ap (λ z. u.trees ++ T.loop site (decided_if f u.after.scopes site held) z each ∷ []) scope.0
       ∙ ap (λ z. u.trees ++ T.loop site (decided_if f u.after.scopes site held) (block_of w) z ∷ []) (stepped ∙ ap (λ m. block_of (acted_if f site step m)) is)))
       (out ∙ ap outside_of_it scope.1) put
+
+  -- labels: the first of a `switch` is a `Stop`
+  pub labelled_stops : (ls : List LabelTree) (s : StatementTree) (word : List ℕ) (site : Site) → label_stop ls ≡ Some (word, site) → here ≡ at →
+      OnOk r (new ≡ old ++ T.evaluate (stop [] (f.run.word_number word) site) ∷ []) → OnOk r (Walked (done f loop (labelled ls s) at) old new here)
+  labelled_stops ls s word site first same put =
+      walks_as r (stopping f word site [] at) _ old new here (sym (ap (λ o. or_else o (λ x. stopping f x.0 x.1 [] at) (done f loop s at)) first)) (one_walked r _ _ old new here at refl same put)
+
+  -- any other is nothing
+  pub labelled_done : (ls : List LabelTree) (s : StatementTree) → label_stop ls ≡ None → OnOk r (Walked (done f loop s at) old new here) → OnOk r (Walked (done f loop (labelled ls s) at) old new here)
+  labelled_done ls s none h = walks_as r (done f loop s at) _ old new here (sym (ap (λ o. or_else o (λ x. stopping f x.0 x.1 [] at) (done f loop s at)) none)) h
+
+  -- a statement that is this one
+  pub walked_as : (s t : StatementTree) → s ≡ t → OnOk r (Walked (done f loop t at) old new here) → OnOk r (Walked (done f loop s at) old new here)
+  walked_as s t is h = walks_as r (done f loop t at) _ old new here (ap (λ z. done f loop z at) (sym is)) h

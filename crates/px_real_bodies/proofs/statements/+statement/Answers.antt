@@ -1,13 +1,20 @@
-use Rattle.std.proofs.Common.{◌+◌, ◌∷◌, map, drop, ap, sym, ◌∙◌}
+use Rattle.std.proofs.Common.{◌+◌, ◌∷◌, [], map, drop, refl, ap, sym, subst, ◌∙◌, arith}
 use Rattle.std.proofs.lemmas.List.{drop_more, drop_all}
-use Rattle.px_syntax.specs.TypedViews.{typed_statement}
+use Rattle.px_syntax.specs.TypedTree as T
+use Rattle.px_syntax.specs.TypedViews.{typed_expression, typed_statement}
+use Rattle.px_syntax.proofs.TypedEquations.{typed-Block}
+use Rattle.px_real_symbols.specs.Symbols.{held_in}
 use Rattle.px_real_statements.specs.StatementTree.{statements_of}
-use Rattle.px_real_blocks.specs.Trees.{statement_tree}
+use Rattle.px_real_blocks.specs.Trees.{label_tree, statement_tree}
 use Rattle.px_real_types.specs.Scopes.{texts}
-use Rattle.px_real_bodies.specs.Places.{behind}
-use Rattle.px_real_bodies.specs.Statements.{done, all_done}
+use Rattle.px_real_values.specs.Operands.{stop}
+use Rattle.px_real_bodies.specs.Places.{in_scopes, within, behind, Walked}
+use Rattle.px_real_bodies.specs.Values.{decided, decided_if}
+use Rattle.px_real_bodies.specs.Statements.{block_of, acted_if, phrased_if, done, all_done}
 use Rattle.px_real_bodies.specs.Views.{place_seen}
+use Rattle.px_real_bodies.proofs.PartLemmas.{put_as}
 use Rattle.px_real_bodies.proofs.WalkLemmas.{walked_on, walked_none}
+use Rattle.px_real_bodies.proofs.StatementLemmas.{scoped_is, block_walked, choose_walked, choose_else_walked, while_walked, for_walked, labelled_stops, labelled_done}
 use Rattle.px_real_bodies.proofs.statements.+statement.Goals as goal
 
 pub put_all_statements-loop-statement-preserved : goal.put_all_statements-loop-statement-preserved
@@ -31,3 +38,80 @@ put_all_statements-returns g t c =
     walked_none before (place_seen c.loop-statement.place)
     ∙ sym (ap (λ z. behind before (all_done f c.args.in_loop (statements_of (map tree z)) (place_seen c.loop-statement.place))) (drop_all c.loop-statement.statement-index c.args.statements.now c.loop-statement-test.false))
     ∙ c.loop-statement.invariant
+
+-- ---- statements that hold others
+
+pub scoped-returns : goal.scoped-returns
+scoped-returns g t c =
+    let f = g.F.Function.sees c.args.function.now in
+    let tree = statement_tree (texts c.args.on) c.args.statement.now in
+    let at = place_seen c.args.place.now in
+    let end = place_seen c.put_statement.new.place in
+    scoped_is (done f c.args.in_loop tree (in_scopes at c.enter.new.self)) (done f c.args.in_loop tree (within at)) _ _ _ end (in_scopes end c.leave.new.self)
+    (ap (λ st. done f c.args.in_loop tree (in_scopes at st)) c.in_ok-enter.ensures.entered) (ap (map typed_statement) c.new-statements.ensures) c.in_ok-put_statement.ensures
+    (ap typed_statement c.in_ok-new.ensures ∙ typed-Block c.put_statement.new.into) (ap (in_scopes end) c.leave.ensures)
+
+pub put_block-returns : goal.put_block-returns
+put_block-returns g t c =
+    let f = g.F.Function.sees c.args.function.now in
+    let ss = statements_of (map (statement_tree (texts c.args.on)) c.args.statements.now) in
+    let at = place_seen c.args.place.now in
+    let end = place_seen c.put_all_statements.new.place in
+    block_walked c.put.result f c.args.in_loop at (in_scopes end c.leave.new.self) _ _ ss (in_scopes at c.enter.new.self) end _ (map typed_statement c.put_all_statements.new.into.items)
+    (ap (in_scopes at) c.in_ok-enter.ensures.entered) (ap (map typed_statement) c.new-inner.ensures) c.in_ok-put_all_statements.ensures (ap (in_scopes end) c.leave.ensures)
+    (put_as c.put.result _ _ _ _ (ap (λ s. s ∷ []) (typed-Block c.put_all_statements.new.into)) c.put.ensures)
+
+pub put_if-returns : goal.put_if-returns
+put_if-returns g t c =
+    let f = g.F.Function.sees c.args.function.now in
+    let all = texts c.args.on in
+    let at = place_seen c.args.place.now in
+    choose_walked c.put.result f c.args.in_loop at (place_seen c.scoped.new.place) _ _ c.args.site (held_in all c.args.condition) (statement_tree all c.args.chosen.now) _ _ _
+    (c.in_ok-condition.ensures ∙ ap (decided f at.scopes c.args.site) c.within.ensures) c.in_ok-then.ensures c.in_ok-nothing.ensures c.put.ensures
+
+pub put_if_else-returns : goal.put_if_else-returns
+put_if_else-returns g t c =
+    let f = g.F.Function.sees c.args.function.now in
+    let all = texts c.args.on in
+    let at = place_seen c.args.place.now in
+    choose_else_walked c.put.result f c.args.in_loop at (place_seen c.scoped-2.new.place) _ _ c.args.site (held_in all c.args.condition) (statement_tree all c.args.chosen.now) (statement_tree all c.args.otherwise.now) _ _ _
+    (place_seen c.scoped.new.place) (c.in_ok-condition.ensures ∙ ap (decided f at.scopes c.args.site) c.within.ensures) c.in_ok-then.ensures c.in_ok-other.ensures c.put.ensures
+
+pub put_while-returns : goal.put_while-returns
+put_while-returns g t c =
+    let f = g.F.Function.sees c.args.function.now in
+    let all = texts c.args.on in
+    let at = place_seen c.args.place.now in
+    while_walked c.put.result f c.args.in_loop at (place_seen c.scoped.new.place) _ _ c.args.site (held_in all c.args.condition) (statement_tree all c.args.body.now) _ _ _
+    (c.in_ok-condition.ensures ∙ ap (decided f at.scopes c.args.site) c.within.ensures) c.in_ok-body.ensures c.in_ok-nothing.ensures c.put.ensures
+
+pub put_for-returns : goal.put_for-returns
+put_for-returns g t c =
+    let f = g.F.Function.sees c.args.function.now in
+    let all = texts c.args.on in
+    let at = place_seen c.args.place.now in
+    let mid = place_seen c.phrase_if.new.place in
+    let end = place_seen c.scoped.new.place in
+    let first = held_in all c.args.head.first in
+    let test = held_in all c.args.head.condition in
+    let each = held_in all c.args.head.step in
+    let begun = in_scopes at c.enter.new.self in
+    for_walked c.put-2.result f c.args.in_loop at (in_scopes end c.leave.new.self) _ _ c.args.site first test each (statement_tree all c.args.body.now) begun mid end _ _ (map typed_statement c.put.new.into.items) _ _ _
+    (ap (in_scopes at) c.in_ok-enter.ensures.entered) (ap (map typed_statement) c.new-statements.ensures)
+    (subst (λ z. Walked (phrased_if f c.args.site z begun) _ _ mid) c.within-first.ensures c.in_ok-phrase_if.ensures)
+    (c.in_ok-condition.ensures ∙ ap (decided_if f mid.scopes c.args.site) c.within-test.ensures) (c.in_ok-step.ensures ∙ ap (λ z. block_of (acted_if f c.args.site z mid)) c.within.ensures) c.in_ok-body.ensures
+    (ap (in_scopes end) c.leave.ensures) c.in_ok-put.ensures (put_as c.put-2.result _ _ _ _ (ap (λ s. s ∷ []) (typed-Block c.put.new.into)) c.put-2.ensures)
+
+pub put_labelled-returns-in-Some : goal.put_labelled-returns-in-Some
+put_labelled-returns-in-Some g t c =
+    let f = g.F.Function.sees c.args.function.now in
+    let all = texts c.args.on in
+    let at = place_seen c.args.place.now in
+    labelled_stops c.put_stop.result f c.args.in_loop at at _ _ (map (label_tree all) c.args.labels.now) (statement_tree all c.args.statement.now) c.in-Some.word.now c.in-Some.site
+    (sym (c.in-Some.ensures all)) refl (put_as c.put_stop.result _ _ _ _ (ap (λ ps. T.evaluate (stop ps (f.run.word_number c.in-Some.word.now) c.in-Some.site) ∷ []) (ap (map typed_expression) c.new.ensures)) c.put_stop.ensures)
+
+pub put_labelled-returns-in-None : goal.put_labelled-returns-in-None
+put_labelled-returns-in-None g t c =
+    let all = texts c.args.on in
+    labelled_done c.put_statement.result (g.F.Function.sees c.args.function.now) c.args.in_loop (place_seen c.args.place.now) (place_seen c.put_statement.new.place) _ _ (map (label_tree all) c.args.labels.now)
+    (statement_tree all c.args.statement.now) (sym (c.in-None.ensures all)) c.put_statement.ensures
