@@ -1,5 +1,5 @@
 -- What a declaration does, by what the code finds of it.
-use Rattle.std.proofs.Common.{◌≡◌, ◌∙◌, refl, sym, ap, subst, ℕ, ◌+◌, Bool, true, false, List, [], ◌∷◌, ◌++◌, map, length, nat_eq, Option, Some, None, Result, Err, OnOk, append-nil}
+use Rattle.std.proofs.Common.{◌≡◌, ◌∙◌, refl, sym, ap, subst, ℕ, ◌+◌, Bool, true, false, List, [], ◌∷◌, ◌++◌, Option, Some, None, Result, Err, OnOk, append-nil}
 use Rattle.std.specs.Prelude.{codes}
 use Rattle.px_base.specs.declared.trace.Site.{Site}
 use Rattle.px_terms.specs.declared.types.ValueType.{ValueType}
@@ -35,14 +35,6 @@ none_behind o before after D.NoMemory h g = absurd cc
 none_behind o before after (D.NotADeclaration at) h g = h
 none_behind o before after (D.Deep at) h g = h
 
--- specifiers stand alone where no name stands behind them
-pub stand_alone : {A : Type 0} (view : A → DeclaredTree) (xs : List A) (n : ℕ) → n ≡ length xs → nat_eq n 0 ≡ declares_none (map view xs)
-stand_alone view xs n e = ap (λ m. nat_eq m 0) e ∙ by xs
-  where
-    by : (xs : List A) → nat_eq (length xs) 0 ≡ declares_none (map view xs)
-    by [] = refl
-    by (x ∷ xs) = refl
-
 module _ (f : Function) (at : Place) (ss : List SpecifierTree) (xs : List DeclaredTree) (alone : Bool) (d : DeclarationTree) (otherwise : Walk) (is : d ≡ declaration ss xs) (none : alone ≡ declares_none xs) where
   declared_by : (o : Option Scopes) → with_specifiers alone ss at.scopes ≡ o
       → or_else (declared f at d) (λ w. w) otherwise ≡ or_else (or_else o (λ st. Some (with_declarators f (in_scopes at st) ss (specified_known st ss) xs)) None) (λ w. w) otherwise
@@ -55,8 +47,8 @@ module _ (f : Function) (at : Place) (ss : List SpecifierTree) (xs : List Declar
   names_declared st h = sym (declared_by (Some st) h)
 
   -- and else it is unread
-  pub none_declared : with_specifiers alone ss at.scopes ≡ None → otherwise ≡ or_else (declared f at d) (λ w. w) otherwise
-  none_declared h = sym (declared_by None h)
+  pub unread_declared : with_specifiers alone ss at.scopes ≡ None → otherwise ≡ or_else (declared f at d) (λ w. w) otherwise
+  unread_declared h = sym (declared_by None h)
 
 -- ---- what keeps the code from more
 

@@ -85,12 +85,12 @@ module _ (parts_in : List Lexeme → List Expression) (rest : List (List Lexeme)
 
 -- ---- at each token, what was put and what is left are the whole
 
-module _ (parts_in : List Lexeme → List Expression) (all : List Lexeme) (first at n open : ℕ) (t : Lexeme) (old whole : List Expression) (next : drop at all ≡ t ∷ drop (at + 1) all) (now : open ≡ opened n t)
-  (so_far : old ++ item_parts parts_in (onto (held_in all (span first at)) (separated n (drop at all))) ≡ whole) where
+module _ (parts_in : List Lexeme → List Expression) (all : List Lexeme) (first at n m : ℕ) (t : Lexeme) (old whole : List Expression) (next : drop at all ≡ t ∷ drop (at + 1) all) (now : m ≡ opened n t)
+    (so_far : old ++ item_parts parts_in (onto (held_in all (span first at)) (separated n (drop at all))) ≡ whole) where
   -- an item ends
   pub parts_ended : (item : List Lexeme) (new : List Expression) → n ≡ 0 → same t.terminal K.Comma ≡ true → item ≡ held_in all (span first at) →
       ((rest : List (List Lexeme)) → new ++ item_parts parts_in rest ≡ old ++ item_parts parts_in (item ∷ rest)) →
-      new ++ item_parts parts_in (onto (held_in all (span (at + 1) (at + 1))) (separated open (drop (at + 1) all))) ≡ whole
+      new ++ item_parts parts_in (onto (held_in all (span (at + 1) (at + 1))) (separated m (drop (at + 1) all))) ≡ whole
   parts_ended item new none comma is put =
       let rest = separated 0 (drop (at + 1) all) in
       ap (λ k. new ++ item_parts parts_in (onto (held_in all (span (at + 1) (at + 1))) (separated k (drop (at + 1) all)))) now
@@ -101,7 +101,7 @@ module _ (parts_in : List Lexeme → List Expression) (all : List Lexeme) (first
       ∙ so_far
 
   -- or goes on
-  pub parts_further : first ≤ at → at < length all → (nat_eq n 0 && same t.terminal K.Comma) ≡ false → old ++ item_parts parts_in (onto (held_in all (span first (at + 1))) (separated open (drop (at + 1) all))) ≡ whole
+  pub parts_further : first ≤ at → at < length all → (nat_eq n 0 && same t.terminal K.Comma) ≡ false → old ++ item_parts parts_in (onto (held_in all (span first (at + 1))) (separated m (drop (at + 1) all))) ≡ whole
   parts_further le lt on =
       ap (λ k. old ++ item_parts parts_in (onto (held_in all (span first (at + 1))) (separated k (drop (at + 1) all)))) now
       ∙ sym (ap (λ z. old ++ item_parts parts_in z) (item_further all first at n t le lt next on))

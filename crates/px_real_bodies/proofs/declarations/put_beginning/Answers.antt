@@ -40,5 +40,5 @@ returns-in-None g c =
     let same : us ≡ unbraced ts = c.in_ok-on.ensures ∙ ap unbraced c.within-all.ensures in
     let none : expression_in st (unbraced ts) ≡ None = ap (expression_in st) (sym same) ∙ none_found tree c.in_ok-expression_in.field-0 _ c.in_ok-expression_in.ensures c.in-None.is in
     let u : typed_expression c.in_ok-value.value.value ≡ Values.unread_at f st no_place ts =
-    ap typed_expression c.in_ok-value.ensures ∙ c.unread_at.ensures st ∙ ap (λ s. Values.unread_at f st s (texts c.within-all.result)) c.no_place.ensures ∙ ap (Values.unread_at f st no_place) c.within-all.ensures in
+    ap typed_expression c.in_ok-value.ensures.ok ∙ c.unread_at.ensures st ∙ ap (λ s. Values.unread_at f st s (texts c.within-all.result)) c.no_place.ensures ∙ ap (Values.unread_at f st no_place) c.within-all.ensures in
     put_as c.put.result _ _ _ _ (ap (λ s. s ∷ []) (begun_unread f st c.args.number c.args.kind _ ts (ap (option_map (held_in all)) c.in-Some.is) _ none u)) c.put.ensures

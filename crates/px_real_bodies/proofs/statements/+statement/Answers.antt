@@ -13,6 +13,7 @@ use Rattle.px_real_bodies.specs.Values.{decided, decided_if}
 use Rattle.px_real_bodies.specs.Statements.{block_of, acted_if, phrased_if, done, all_done}
 use Rattle.px_real_bodies.specs.Views.{place_seen}
 use Rattle.px_real_bodies.proofs.PartLemmas.{put_as}
+use Rattle.px_real_bodies.proofs.SizeLemmas.{block_less, if_less, if_else_less, while_less, do_less, for_less, labelled_less, item_falls, part_falls, parts_fall, list_falls}
 use Rattle.px_real_bodies.proofs.WalkLemmas.{walked_on, walked_none}
 use Rattle.px_real_bodies.proofs.StatementLemmas.{scoped_is, block_walked, choose_walked, choose_else_walked, while_walked, for_walked, labelled_stops, labelled_done}
 use Rattle.px_real_bodies.proofs.statements.+statement.Goals as goal
@@ -48,8 +49,8 @@ scoped-returns g t c =
     let at = place_seen c.args.place.now in
     let end = place_seen c.put_statement.new.place in
     scoped_is (done f c.args.in_loop tree (in_scopes at c.enter.new.self)) (done f c.args.in_loop tree (within at)) _ _ _ end (in_scopes end c.leave.new.self)
-    (ap (λ st. done f c.args.in_loop tree (in_scopes at st)) c.in_ok-enter.ensures.entered) (ap (map typed_statement) c.new-statements.ensures) c.in_ok-put_statement.ensures
-    (ap typed_statement c.in_ok-new.ensures ∙ typed-Block c.put_statement.new.into) (ap (in_scopes end) c.leave.ensures)
+    (ap (λ st. done f c.args.in_loop tree (in_scopes at st)) c.in_ok-enter.ensures.entered) (ap (map typed_statement) c.new-statements.ensures.items) c.in_ok-put_statement.ensures
+    (ap typed_statement c.in_ok-new.ensures.ok ∙ typed-Block c.put_statement.new.into) (ap (in_scopes end) c.leave.ensures)
 
 pub put_block-returns : goal.put_block-returns
 put_block-returns g t c =
@@ -58,7 +59,7 @@ put_block-returns g t c =
     let at = place_seen c.args.place.now in
     let end = place_seen c.put_all_statements.new.place in
     block_walked c.put.result f c.args.in_loop at (in_scopes end c.leave.new.self) _ _ ss (in_scopes at c.enter.new.self) end _ (map typed_statement c.put_all_statements.new.into.items)
-    (ap (in_scopes at) c.in_ok-enter.ensures.entered) (ap (map typed_statement) c.new-inner.ensures) c.in_ok-put_all_statements.ensures (ap (in_scopes end) c.leave.ensures)
+    (ap (in_scopes at) c.in_ok-enter.ensures.entered) (ap (map typed_statement) c.new-inner.ensures.items) c.in_ok-put_all_statements.ensures (ap (in_scopes end) c.leave.ensures)
     (put_as c.put.result _ _ _ _ (ap (λ s. s ∷ []) (typed-Block c.put_all_statements.new.into)) c.put.ensures)
 
 pub put_if-returns : goal.put_if-returns
@@ -97,7 +98,7 @@ put_for-returns g t c =
     let each = held_in all c.args.head.step in
     let begun = in_scopes at c.enter.new.self in
     for_walked c.put-2.result f c.args.in_loop at (in_scopes end c.leave.new.self) _ _ c.args.site first test each (statement_tree all c.args.body.now) begun mid end _ _ (map typed_statement c.put.new.into.items) _ _ _
-    (ap (in_scopes at) c.in_ok-enter.ensures.entered) (ap (map typed_statement) c.new-statements.ensures)
+    (ap (in_scopes at) c.in_ok-enter.ensures.entered) (ap (map typed_statement) c.new-statements.ensures.items)
     (subst (λ z. Walked (phrased_if f c.args.site z begun) _ _ mid) c.within-first.ensures c.in_ok-phrase_if.ensures)
     (c.in_ok-condition.ensures ∙ ap (decided_if f mid.scopes c.args.site) c.within-test.ensures) (c.in_ok-step.ensures ∙ ap (λ z. block_of (acted_if f c.args.site z mid)) c.within.ensures) c.in_ok-body.ensures
     (ap (in_scopes end) c.leave.ensures) c.in_ok-put.ensures (put_as c.put-2.result _ _ _ _ (ap (λ s. s ∷ []) (typed-Block c.put.new.into)) c.put-2.ensures)
@@ -108,10 +109,73 @@ put_labelled-returns-in-Some g t c =
     let all = texts c.args.on in
     let at = place_seen c.args.place.now in
     labelled_stops c.put_stop.result f c.args.in_loop at at _ _ (map (label_tree all) c.args.labels.now) (statement_tree all c.args.statement.now) c.in-Some.word.now c.in-Some.site
-    (sym (c.in-Some.ensures all)) refl (put_as c.put_stop.result _ _ _ _ (ap (λ ps. T.evaluate (stop ps (f.run.word_number c.in-Some.word.now) c.in-Some.site) ∷ []) (ap (map typed_expression) c.new.ensures)) c.put_stop.ensures)
+    (sym (c.in-Some.ensures all)) refl (put_as c.put_stop.result _ _ _ _ (ap (λ ps. T.evaluate (stop ps (f.run.word_number c.in-Some.word.now) c.in-Some.site) ∷ []) (ap (map typed_expression) c.new.ensures.items)) c.put_stop.ensures)
 
 pub put_labelled-returns-in-None : goal.put_labelled-returns-in-None
 put_labelled-returns-in-None g t c =
     let all = texts c.args.on in
     labelled_done c.put_statement.result (g.F.Function.sees c.args.function.now) c.args.in_loop (place_seen c.args.place.now) (place_seen c.put_statement.new.place) _ _ (map (label_tree all) c.args.labels.now)
     (statement_tree all c.args.statement.now) (sym (c.in-None.ensures all)) c.put_statement.ensures
+
+-- ---- what stands in a statement is smaller
+
+pub put_all_statements-put_statement-requires : goal.put_all_statements-put_statement-requires
+put_all_statements-put_statement-requires g t c κs within = (item_falls t c.loop-statement.statement-index c.args.statements.now c.statement-item.result c.decreases c.loop-statement-test.true c.statement-item.is, within)
+
+pub scoped-put_statement-requires : goal.scoped-put_statement-requires
+scoped-put_statement-requires g t c κs within = (omega (arith, c.decreases), within)
+
+pub put_block-put_all_statements-requires : goal.put_block-put_all_statements-requires
+put_block-put_all_statements-requires g t c κs within = (omega (arith, c.decreases), within)
+
+pub put_if-scoped-requires : goal.put_if-scoped-requires
+put_if-scoped-requires g t c κs within = (omega (arith, c.decreases), within)
+
+pub put_if_else-scoped-requires : goal.put_if_else-scoped-requires
+put_if_else-scoped-requires g t c κs within = (omega (arith, c.decreases), within)
+
+pub put_if_else-scoped-requires-2 : goal.put_if_else-scoped-requires-2
+put_if_else-scoped-requires-2 g t c κs within = (omega (arith, c.decreases), within)
+
+pub put_while-scoped-requires : goal.put_while-scoped-requires
+put_while-scoped-requires g t c κs within = (omega (arith, c.decreases), within)
+
+pub put_do-scoped-requires : goal.put_do-scoped-requires
+put_do-scoped-requires g t c κs within = (omega (arith, c.decreases), within)
+
+pub put_for-scoped-requires : goal.put_for-scoped-requires
+put_for-scoped-requires g t c κs within = (omega (arith, c.decreases), within)
+
+pub put_labelled-put_statement-requires : goal.put_labelled-put_statement-requires
+put_labelled-put_statement-requires g t c κs within = (omega (arith, c.decreases), within)
+
+pub put_statement-put_block-requires : goal.put_statement-put_block-requires
+put_statement-put_block-requires g t c κs within =
+    let s = c.in-Block in (list_falls t c.args.statement.now _ c.decreases s.is 2 c.deref.result.now _ c.deref.ensures.value (block_less s.statements) (omega arith), within)
+
+pub put_statement-put_if-requires : goal.put_statement-put_if-requires
+put_statement-put_if-requires g t c κs within =
+    let s = c.in-If in (part_falls t c.args.statement.now _ c.decreases s.is 2 c.deref-in-If.result.now _ c.deref-in-If.ensures (if_less s.site s.condition s.then) (omega arith), within)
+
+pub put_statement-put_if_else-requires : goal.put_statement-put_if_else-requires
+put_statement-put_if_else-requires g t c κs within =
+    let s = c.in-IfElse in (
+      parts_fall t c.args.statement.now _ c.decreases s.is 2 c.deref-in-IfElse.result.now _ c.deref-in-IfElse-2.result.now _ c.deref-in-IfElse.ensures c.deref-in-IfElse-2.ensures (if_else_less s.site s.condition s.then s.other) (omega arith),
+      within,
+    )
+
+pub put_statement-put_while-requires : goal.put_statement-put_while-requires
+put_statement-put_while-requires g t c κs within =
+    let s = c.in-While in (part_falls t c.args.statement.now _ c.decreases s.is 2 c.deref-in-While.result.now _ c.deref-in-While.ensures (while_less s.site s.condition s.body) (omega arith), within)
+
+pub put_statement-put_do-requires : goal.put_statement-put_do-requires
+put_statement-put_do-requires g t c κs within =
+    let s = c.in-Do in (part_falls t c.args.statement.now _ c.decreases s.is 2 c.deref-in-Do.result.now _ c.deref-in-Do.ensures (do_less s.site s.condition s.body) (omega arith), within)
+
+pub put_statement-put_for-requires : goal.put_statement-put_for-requires
+put_statement-put_for-requires g t c κs within =
+    let s = c.in-For in (part_falls t c.args.statement.now _ c.decreases s.is 2 c.deref-in-For.result.now _ c.deref-in-For.ensures (for_less s.site s.first s.body s.condition s.step) (omega arith), within)
+
+pub put_statement-put_labelled-requires : goal.put_statement-put_labelled-requires
+put_statement-put_labelled-requires g t c κs within =
+    let s = c.in-Labelled in (part_falls t c.args.statement.now _ c.decreases s.is 1 c.deref-in-Labelled-2.result.now _ c.deref-in-Labelled-2.ensures (labelled_less s.labels s.statement) (omega arith), within)

@@ -15,5 +15,5 @@ pub returns-else-in_loop : goal.returns-else-in_loop
 returns-else-in_loop g c =
     let f = g.F.Function.sees c.args.function.now in
     put_as c.put_stop.result _ _ _ _
-    (ap (λ ps. T.evaluate (stop ps (f.run.word_number c.args.word.now) c.args.site) ∷ []) (ap (map typed_expression) c.new.ensures)
+    (ap (λ ps. T.evaluate (stop ps (f.run.word_number c.args.word.now) c.args.site) ∷ []) (ap (map typed_expression) c.new.ensures.items)
     ∙ sym (ap (λ b. (if b then typed_statement c.args.jump else T.evaluate (stop [] (f.run.word_number c.args.word.now) c.args.site)) ∷ []) c.if-in_loop.false)) c.put_stop.ensures

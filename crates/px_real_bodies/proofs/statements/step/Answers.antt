@@ -8,5 +8,5 @@ use Rattle.px_real_bodies.proofs.statements.step.Goals as goal
 
 pub returns : goal.returns
 returns g c =
-    ap typed_statement c.in_ok-new.ensures ∙ typed-Block c.act_if.new.into
-    ∙ step_made (g.F.Function.sees c.args.function.now) c.args.site (place_seen c.args.place.now) (texts c.args.on) _ _ _ (ap (map typed_statement) c.new-statements.ensures) c.in_ok-act_if.ensures
+    ap typed_statement c.in_ok-new.ensures.ok ∙ typed-Block c.act_if.new.into
+    ∙ step_made (g.F.Function.sees c.args.function.now) c.args.site (place_seen c.args.place.now) (texts c.args.on) _ _ _ (ap (map typed_statement) c.new-statements.ensures.items) c.in_ok-act_if.ensures
