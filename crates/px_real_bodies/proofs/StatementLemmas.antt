@@ -3,7 +3,7 @@ use Rattle.std.proofs.Common.{◌≡◌, ◌≢◌, ◌∙◌, refl, sym, ap, su
 use Rattle.std.specs.Prelude.{codes, if◌then◌else◌}
 use Rattle.px_base.specs.declared.trace.Site.{Site}
 use Rattle.px_syntax.specs.TypedTree as T
-use Rattle.px_syntax.specs.TypedTree.{Condition, Statement}
+use Rattle.px_syntax.specs.TypedTree.{Expression, Condition, Statement}
 use Rattle.px_expressions.specs.Reading.{or_else}
 use Rattle.px_real_expressions.specs.Lexemes.{Lexeme}
 use Rattle.px_real_expressions.specs.ExpressionTree.{ExpressionTree}
@@ -96,6 +96,18 @@ module _ {E : Type 0} (r : Result Unit E) (f : Function) (site : Site) (ts : Lis
 
   pub back_unread : length ts ≢ 0 → expression_in at.scopes ts ≡ None → OnOk r (Walked (unread_there f site ts at) old new at) → OnOk r (Walked (given_back f site ts at) old new at)
   back_unread some none h = walks_as r (unread_there f site ts at) _ old new at (sym (ap returned_by none) ∙ some_back ts refl some) h
+
+-- ---- what is a `Stop`, or a jump
+
+module _ {E : Type 0} (r : Result Unit E) (f : Function) (word text : List ℕ) (site : Site) (at : Place) (old new : List Statement) (is : word ≡ text) where
+  pub stopped_walked : (ps qs : List Expression) → ps ≡ qs → OnOk r (new ≡ old ++ T.evaluate (stop ps (f.run.word_number word) site) ∷ []) → OnOk r (Walked (stopping f text site qs at) old new at)
+  stopped_walked ps qs e put =
+      one_walked r _ _ old new at at (ap (λ w. T.evaluate (stop ps (f.run.word_number w) site)) is ∙ ap (λ zs. T.evaluate (stop zs (f.run.word_number text) site)) e) refl put
+
+  pub jump_walked : (loop : Bool) (s : Statement) → OnOk r (new ≡ old ++ (if loop then s else T.evaluate (stop [] (f.run.word_number word) site)) ∷ []) →
+      OnOk r (Walked (if loop then one s at else stopping f text site [] at) old new at)
+  jump_walked true s put = one_walked r s s old new at at refl refl put
+  jump_walked false s put = stopped_walked [] [] refl put
 
 -- ---- statements that hold others
 

@@ -1,21 +1,24 @@
 use Rattle.std.proofs.Common.{◌+◌, ◌∷◌, [], map, drop, refl, ap, sym, subst, ◌∙◌, arith}
+use Rattle.std.specs.Prelude.{codes}
 use Rattle.std.proofs.lemmas.List.{drop_more, drop_all}
 use Rattle.px_syntax.specs.TypedTree as T
 use Rattle.px_syntax.specs.TypedViews.{typed_expression, typed_statement}
 use Rattle.px_syntax.proofs.TypedEquations.{typed-Block}
 use Rattle.px_real_symbols.specs.Symbols.{held_in}
-use Rattle.px_real_statements.specs.StatementTree.{statements_of}
+use Rattle.px_real_statements.specs.StatementTree.{statements_of, simple, block, choose, choose_else, switch, while_loop, do_loop, for_loop, goto, break, continue, return, labelled, unread}
 use Rattle.px_real_blocks.specs.Trees.{label_tree, statement_tree}
+use Rattle.px_real_blocks.proofs.StatementEquations.{tree-Empty, tree-Simple, tree-Block, tree-If, tree-IfElse, tree-Switch, tree-While, tree-Do, tree-For, tree-Goto, tree-Break, tree-Continue, tree-Return, tree-Labelled, tree-Unread}
 use Rattle.px_real_types.specs.Scopes.{texts}
 use Rattle.px_real_values.specs.Operands.{stop}
 use Rattle.px_real_bodies.specs.Places.{in_scopes, within, behind, Walked}
-use Rattle.px_real_bodies.specs.Values.{decided, decided_if}
-use Rattle.px_real_bodies.specs.Statements.{block_of, acted_if, phrased_if, done, all_done}
+use Rattle.px_real_bodies.specs.Phrases.{first_place, no_place}
+use Rattle.px_real_bodies.specs.Values.{parts_of, decided, decided_if}
+use Rattle.px_real_bodies.specs.Statements.{block_of, stopping, unread_there, acted_if, phrased, phrased_if, given_back, done, all_done}
 use Rattle.px_real_bodies.specs.Views.{place_seen}
 use Rattle.px_real_bodies.proofs.PartLemmas.{put_as}
 use Rattle.px_real_bodies.proofs.SizeLemmas.{block_less, if_less, if_else_less, while_less, do_less, for_less, labelled_less, item_falls, part_falls, parts_fall, list_falls}
-use Rattle.px_real_bodies.proofs.WalkLemmas.{walked_on, walked_none}
-use Rattle.px_real_bodies.proofs.StatementLemmas.{scoped_is, block_walked, choose_walked, choose_else_walked, while_walked, for_walked, labelled_stops, labelled_done}
+use Rattle.px_real_bodies.proofs.WalkLemmas.{walked_on, walked_none, walks_as}
+use Rattle.px_real_bodies.proofs.StatementLemmas.{scoped_is, stopped_walked, jump_walked, block_walked, choose_walked, choose_else_walked, while_walked, once_walked, do_walked, for_walked, labelled_stops, labelled_done, walked_as}
 use Rattle.px_real_bodies.proofs.statements.+statement.Goals as goal
 
 pub put_all_statements-loop-statement-preserved : goal.put_all_statements-loop-statement-preserved
@@ -116,6 +119,147 @@ put_labelled-returns-in-None g t c =
     let all = texts c.args.on in
     labelled_done c.put_statement.result (g.F.Function.sees c.args.function.now) c.args.in_loop (place_seen c.args.place.now) (place_seen c.put_statement.new.place) _ _ (map (label_tree all) c.args.labels.now)
     (statement_tree all c.args.statement.now) (sym (c.in-None.ensures all)) c.put_statement.ensures
+
+-- ---- one kind of statement
+
+pub put_statement-returns-in-Empty : goal.put_statement-returns-in-Empty
+put_statement-returns-in-Empty g t c =
+    let f = g.F.Function.sees c.args.function.now in
+    let all = texts c.args.on in
+    let at = place_seen c.args.place.now in
+    let old = map typed_statement c.args.into.now.items in
+    subst (λ z. Walked (done f c.args.in_loop z at) old old at) (sym (ap (statement_tree all) c.in-Empty.is ∙ tree-Empty all)) (walked_none old at)
+
+pub put_statement-returns-in-Simple : goal.put_statement-returns-in-Simple
+put_statement-returns-in-Simple g t c =
+    let f = g.F.Function.sees c.args.function.now in
+    let all = texts c.args.on in
+    let at = place_seen c.args.place.now in
+    let s = c.in-Simple in
+    let held = texts c.within-held.result in
+    walked_as c.phrase.result f c.args.in_loop at (place_seen c.phrase.new.place) _ _ (statement_tree all c.args.statement.now) (simple (held_in all s.tokens)) (ap (statement_tree all) s.is ∙ tree-Simple all s.tokens)
+    (walks_as c.phrase.result _ _ _ _ _
+    (ap (λ p. phrased f p held at) (c.first_place-site.ensures ∙ ap (λ p. first_place p held) c.no_place.ensures) ∙ ap (λ z. phrased f (first_place no_place z) z at) c.within-held.ensures) c.phrase.ensures)
+
+pub put_statement-returns-in-Block : goal.put_statement-returns-in-Block
+put_statement-returns-in-Block g t c =
+    let f = g.F.Function.sees c.args.function.now in
+    let all = texts c.args.on in
+    let s = c.in-Block in
+    walked_as c.put_block.result f c.args.in_loop (place_seen c.args.place.now) (place_seen c.put_block.new.place) _ _ (statement_tree all c.args.statement.now) _
+    (ap (statement_tree all) s.is ∙ tree-Block all s.statements ∙ ap (λ z. block (statements_of (map (statement_tree all) z))) (sym c.deref.ensures.value)) c.put_block.ensures
+
+pub put_statement-returns-in-If : goal.put_statement-returns-in-If
+put_statement-returns-in-If g t c =
+    let f = g.F.Function.sees c.args.function.now in
+    let all = texts c.args.on in
+    let s = c.in-If in
+    walked_as c.put_if.result f c.args.in_loop (place_seen c.args.place.now) (place_seen c.put_if.new.place) _ _ (statement_tree all c.args.statement.now) _
+    (ap (statement_tree all) s.is ∙ tree-If all s.site s.condition s.then ∙ ap (λ z. choose s.site (held_in all s.condition) (statement_tree all z)) (sym c.deref-in-If.ensures)) c.put_if.ensures
+
+pub put_statement-returns-in-IfElse : goal.put_statement-returns-in-IfElse
+put_statement-returns-in-IfElse g t c =
+    let f = g.F.Function.sees c.args.function.now in
+    let all = texts c.args.on in
+    let s = c.in-IfElse in
+    let test = held_in all s.condition in
+    walked_as c.put_if_else.result f c.args.in_loop (place_seen c.args.place.now) (place_seen c.put_if_else.new.place) _ _ (statement_tree all c.args.statement.now) _
+    (ap (statement_tree all) s.is ∙ tree-IfElse all s.site s.condition s.then s.other
+    ∙ ap (λ z. choose_else s.site test (statement_tree all z) (statement_tree all s.other.value)) (sym c.deref-in-IfElse.ensures)
+    ∙ ap (λ z. choose_else s.site test (statement_tree all c.deref-in-IfElse.result.now) (statement_tree all z)) (sym c.deref-in-IfElse-2.ensures)) c.put_if_else.ensures
+
+pub put_statement-returns-in-Switch : goal.put_statement-returns-in-Switch
+put_statement-returns-in-Switch g t c =
+    let f = g.F.Function.sees c.args.function.now in
+    let all = texts c.args.on in
+    let at = place_seen c.args.place.now in
+    let s = c.in-Switch in
+    walked_as c.put_switch.result f c.args.in_loop at at _ _ (statement_tree all c.args.statement.now) (switch s.site (held_in all s.value) (statement_tree all s.body.value))
+    (ap (statement_tree all) s.is ∙ tree-Switch all s.site s.value s.body)
+    (walks_as c.put_switch.result _ _ _ _ _ (ap (λ z. stopping f (codes "switch") s.site (parts_of f at.scopes s.site z) at) c.within-in-Switch.ensures) c.put_switch.ensures)
+
+pub put_statement-returns-in-While : goal.put_statement-returns-in-While
+put_statement-returns-in-While g t c =
+    let f = g.F.Function.sees c.args.function.now in
+    let all = texts c.args.on in
+    let s = c.in-While in
+    walked_as c.put_while.result f c.args.in_loop (place_seen c.args.place.now) (place_seen c.put_while.new.place) _ _ (statement_tree all c.args.statement.now) _
+    (ap (statement_tree all) s.is ∙ tree-While all s.site s.condition s.body ∙ ap (λ z. while_loop s.site (held_in all s.condition) (statement_tree all z)) (sym c.deref-in-While.ensures)) c.put_while.ensures
+
+pub put_statement-returns-in-Do : goal.put_statement-returns-in-Do
+put_statement-returns-in-Do g t c =
+    let f = g.F.Function.sees c.args.function.now in
+    let all = texts c.args.on in
+    let s = c.in-Do in
+    walked_as c.put_do.result f c.args.in_loop (place_seen c.args.place.now) (place_seen c.put_do.new.place) _ _ (statement_tree all c.args.statement.now) _
+    (ap (statement_tree all) s.is ∙ tree-Do all s.site s.body s.condition ∙ ap (λ z. do_loop s.site (statement_tree all z) (held_in all s.condition)) (sym c.deref-in-Do.ensures)) c.put_do.ensures
+
+pub put_statement-returns-in-For : goal.put_statement-returns-in-For
+put_statement-returns-in-For g t c =
+    let f = g.F.Function.sees c.args.function.now in
+    let all = texts c.args.on in
+    let s = c.in-For in
+    walked_as c.put_for.result f c.args.in_loop (place_seen c.args.place.now) (place_seen c.put_for.new.place) _ _ (statement_tree all c.args.statement.now) _
+    (ap (statement_tree all) s.is ∙ tree-For all s.site s.first s.condition s.step s.body
+    ∙ ap (λ z. for_loop s.site (held_in all s.first) (held_in all s.condition) (held_in all s.step) (statement_tree all z)) (sym c.deref-in-For.ensures)) c.put_for.ensures
+
+pub put_statement-returns-in-Goto : goal.put_statement-returns-in-Goto
+put_statement-returns-in-Goto g t c =
+    let f = g.F.Function.sees c.args.function.now in
+    let all = texts c.args.on in
+    let at = place_seen c.args.place.now in
+    let s = c.in-Goto in
+    walked_as c.put_stop.result f c.args.in_loop at at _ _ (statement_tree all c.args.statement.now) (goto s.site _) (elim s.is [ (held, e) ↦ ap (statement_tree all) e ∙ tree-Goto all s.site held ])
+    (stopped_walked c.put_stop.result f c.as_slice.result.now _ s.site at _ _ c.as_slice.ensures _ [] (ap (map typed_expression) c.new.ensures.items) c.put_stop.ensures)
+
+pub put_statement-returns-in-Break : goal.put_statement-returns-in-Break
+put_statement-returns-in-Break g t c =
+    let f = g.F.Function.sees c.args.function.now in
+    let all = texts c.args.on in
+    let at = place_seen c.args.place.now in
+    let s = c.in-Break in
+    walked_as c.jump.result f c.args.in_loop at at _ _ (statement_tree all c.args.statement.now) (break s.site) (ap (statement_tree all) s.is ∙ tree-Break all s.site)
+    (jump_walked c.jump.result f c.as_slice-in-Break.result.now _ s.site at _ _ c.as_slice-in-Break.ensures c.args.in_loop T.break c.jump.ensures)
+
+pub put_statement-returns-in-Continue : goal.put_statement-returns-in-Continue
+put_statement-returns-in-Continue g t c =
+    let f = g.F.Function.sees c.args.function.now in
+    let all = texts c.args.on in
+    let at = place_seen c.args.place.now in
+    let s = c.in-Continue in
+    walked_as c.jump-in-Continue.result f c.args.in_loop at at _ _ (statement_tree all c.args.statement.now) (continue s.site) (ap (statement_tree all) s.is ∙ tree-Continue all s.site)
+    (jump_walked c.jump-in-Continue.result f c.as_slice-in-Continue.result.now _ s.site at _ _ c.as_slice-in-Continue.ensures c.args.in_loop T.continue c.jump-in-Continue.ensures)
+
+pub put_statement-returns-in-Return : goal.put_statement-returns-in-Return
+put_statement-returns-in-Return g t c =
+    let f = g.F.Function.sees c.args.function.now in
+    let all = texts c.args.on in
+    let at = place_seen c.args.place.now in
+    let s = c.in-Return in
+    walked_as c.give_back.result f c.args.in_loop at at _ _ (statement_tree all c.args.statement.now) (return s.site (held_in all s.value)) (ap (statement_tree all) s.is ∙ tree-Return all s.site s.value)
+    (walks_as c.give_back.result _ _ _ _ _ (ap (λ z. given_back f s.site z at) c.within-in-Return.ensures) c.give_back.ensures)
+
+pub put_statement-returns-in-Labelled : goal.put_statement-returns-in-Labelled
+put_statement-returns-in-Labelled g t c =
+    let f = g.F.Function.sees c.args.function.now in
+    let all = texts c.args.on in
+    let s = c.in-Labelled in
+    walked_as c.put_labelled.result f c.args.in_loop (place_seen c.args.place.now) (place_seen c.put_labelled.new.place) _ _ (statement_tree all c.args.statement.now) _
+    (ap (statement_tree all) s.is ∙ tree-Labelled all s.labels s.statement
+    ∙ ap (λ z. labelled (map (label_tree all) z) (statement_tree all s.statement.value)) (sym c.deref-in-Labelled.ensures.value)
+    ∙ ap (λ z. labelled (map (label_tree all) c.deref-in-Labelled.result.now) (statement_tree all z)) (sym c.deref-in-Labelled-2.ensures)) c.put_labelled.ensures
+
+pub put_statement-returns-in-Unread : goal.put_statement-returns-in-Unread
+put_statement-returns-in-Unread g t c =
+    let f = g.F.Function.sees c.args.function.now in
+    let all = texts c.args.on in
+    let at = place_seen c.args.place.now in
+    let s = c.in-Unread in
+    let held = texts c.within-held-in-Unread.result in
+    walked_as c.put_unread.result f c.args.in_loop at at _ _ (statement_tree all c.args.statement.now) (unread (held_in all s.tokens)) (ap (statement_tree all) s.is ∙ tree-Unread all s.tokens)
+    (walks_as c.put_unread.result _ _ _ _ _
+    (ap (λ p. unread_there f p held at) (c.first_place-site-in-Unread.ensures ∙ ap (λ p. first_place p held) c.no_place-in-Unread.ensures) ∙ ap (λ z. unread_there f (first_place no_place z) z at) c.within-held-in-Unread.ensures)
+    c.put_unread.ensures)
 
 -- ---- what stands in a statement is smaller
 
