@@ -13,13 +13,10 @@ use Rattle.px_real_symbols.proofs.FrontLemmas.{drop_mapped}
 use Rattle.px_real_bodies.specs.Values.{opened, onto_first, separated, behind_equal, without_last, behind_first, begins_list, listed}
 use Rattle.px_real_bodies.specs.Declarations.{only_of}
 
-pub next_at : {A : Type 0} (xs : List A) (i : ℕ) (x : A) → i < length xs → x ≡ get_or xs i x → drop i xs ≡ x ∷ drop (i + 1) xs
-next_at xs i x lt is = drop_more xs i x lt ∙ ap (λ z. z ∷ drop (i + 1) xs) (sym is)
-
 module _ {A B C : Type 0} (view : A → B) (f : List B → C) (xs : List A) (i : ℕ) (all : C) (so_far : f (map view (drop i xs)) ≡ all) where
   -- the one at i begins what is left
   pub look_on : (x : A) → i < length xs → x ≡ get_or xs i x → f (view x ∷ map view (drop (i + 1) xs)) ≡ all
-  look_on x lt is = sym (ap (λ z. f (map view z)) (next_at xs i x lt is)) ∙ so_far
+  look_on x lt is = sym (ap (λ z. f (map view z)) (drop_more xs i x lt ∙ ap (λ z. z ∷ drop (i + 1) xs) (sym is))) ∙ so_far
 
   -- nothing is left
   pub look_ends : length xs ≤ i → f [] ≡ all

@@ -1,9 +1,8 @@
-use Rattle.std.proofs.Common.{◌≡◌, ◌∙◌, ◌+◌, true, false, drop, sym, ap}
-use Rattle.std.proofs.lemmas.List.{drop_all}
+use Rattle.std.proofs.Common.{◌≡◌, ◌∙◌, ◌+◌, ◌∷◌, true, false, drop, sym, ap}
+use Rattle.std.proofs.lemmas.List.{drop_more, drop_all}
 use Rattle.px_real_symbols.specs.Symbols.{held_in}
 use Rattle.px_real_types.specs.Scopes.{texts}
 use Rattle.px_real_bodies.specs.Declarations.{is_length, varies}
-use Rattle.px_real_bodies.proofs.ListLemmas.{next_at}
 use Rattle.px_real_bodies.proofs.LengthLemmas.{lengths_of, suffixes_vary, suffix_found, suffix_constant, suffix_passed}
 use Rattle.px_real_bodies.proofs.lengths.suffix_varies.Goals as goal
 
@@ -17,7 +16,7 @@ returns-then-not-branch g c = λ d none.
     let s = c.suffix-item.result in
     let no : is_length f st (held_in all c.in-Array.held) ≡ false = sym (c.in_ok-is_length.ensures ∙ ap (is_length f st) c.within.ensures) ∙ c.if-not-branch.true in
     suffix_found f st all s (drop (i + 1) ss) c.in-Array.site c.in-Array.held c.in-Array.is no
-    ∙ sym (ap (λ z. varies f st (lengths_of all z)) (next_at ss i s c.loop-suffix-test.true c.suffix-item.is))
+    ∙ sym (ap (λ z. varies f st (lengths_of all z)) (drop_more ss i s c.loop-suffix-test.true ∙ ap (λ z. z ∷ drop (i + 1) ss) (sym c.suffix-item.is)))
     ∙ c.loop-suffix.invariant
     ∙ sym (suffixes_vary f st all d ss none)
 
@@ -31,7 +30,7 @@ loop-suffix-preserved-else-not-branch g c =
     let s = c.suffix-item.result in
     let yes : is_length f st (held_in all c.in-Array.held) ≡ true = sym (c.in_ok-is_length.ensures ∙ ap (is_length f st) c.within.ensures) ∙ c.if-not-branch.false in
     sym (suffix_constant f st all s (drop (i + 1) ss) c.in-Array.site c.in-Array.held c.in-Array.is yes)
-    ∙ sym (ap (λ z. varies f st (lengths_of all z)) (next_at ss i s c.loop-suffix-test.true c.suffix-item.is))
+    ∙ sym (ap (λ z. varies f st (lengths_of all z)) (drop_more ss i s c.loop-suffix-test.true ∙ ap (λ z. z ∷ drop (i + 1) ss) (sym c.suffix-item.is)))
     ∙ c.loop-suffix.invariant
 
 pub loop-suffix-preserved-in_default : goal.loop-suffix-preserved-in_default
@@ -43,7 +42,7 @@ loop-suffix-preserved-in_default g c =
     let i = c.loop-suffix.suffix-index in
     let s = c.suffix-item.result in
     sym (suffix_passed f st all s (drop (i + 1) ss) (λ site held e. c.in_default.not-Array (site, held, e)))
-    ∙ sym (ap (λ z. varies f st (lengths_of all z)) (next_at ss i s c.loop-suffix-test.true c.suffix-item.is))
+    ∙ sym (ap (λ z. varies f st (lengths_of all z)) (drop_more ss i s c.loop-suffix-test.true ∙ ap (λ z. z ∷ drop (i + 1) ss) (sym c.suffix-item.is)))
     ∙ c.loop-suffix.invariant
 
 pub returns : goal.returns
