@@ -14,11 +14,11 @@ returns-in-Some g c =
     let ts = texts c.args.on in
     let tree = expression_tree (all_tabled st ts) in
     length_read (g.F.Function.sees c.args.function.now) st ts (tree c.in-Some.expression) _ (texts_some c.args.on c.if-is_empty.ensures)
-    (some_found tree c.in_ok-expression_in.field-0 _ c.in_ok-expression_in.ensures c.in-Some.expression c.in-Some.is) c.is_constant.ensures
+    (some_found tree _ _ c.in_ok-expression.ensures c.in-Some.expression c.in-Some.is) c.is_constant.ensures
 
 pub returns-in-None : goal.returns-in-None
 returns-in-None g c =
     let st = c.args.scopes.now in
     let ts = texts c.args.on in
     length_unread (g.F.Function.sees c.args.function.now) st ts (texts_some c.args.on c.if-is_empty.ensures)
-    (none_found (expression_tree (all_tabled st ts)) c.in_ok-expression_in.field-0 _ c.in_ok-expression_in.ensures c.in-None.is)
+    (none_found (expression_tree (all_tabled st ts)) _ _ c.in_ok-expression.ensures c.in-None.is)

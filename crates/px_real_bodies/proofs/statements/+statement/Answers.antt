@@ -209,7 +209,7 @@ put_statement-returns-in-Goto g t c =
     let all = texts c.args.on in
     let at = place_seen c.args.place.now in
     let s = c.in-Goto in
-    walked_as c.put_stop.result f c.args.in_loop at at _ _ (statement_tree all c.args.statement.now) (goto s.site _) (elim s.is [ (held, e) ↦ ap (statement_tree all) e ∙ tree-Goto all s.site held ])
+    walked_as c.put_stop.result f c.args.in_loop at at _ _ (statement_tree all c.args.statement.now) (goto s.site (held_in all s.target)) (ap (statement_tree all) s.is ∙ tree-Goto all s.site s.target)
     (stopped_walked c.put_stop.result f c.as_slice.result.now _ s.site at _ _ c.as_slice.ensures _ [] (ap (map typed_expression) c.new.ensures.items) c.put_stop.ensures)
 
 pub put_statement-returns-in-Break : goal.put_statement-returns-in-Break

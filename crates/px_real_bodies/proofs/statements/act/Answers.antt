@@ -14,11 +14,11 @@ returns-in-Some g c =
     let ts = texts c.args.on in
     let tree = expression_tree (all_tabled at.scopes ts) in
     acted_read c.perform.result (g.F.Function.sees c.args.function.now) c.args.site ts at _ _ (tree c.in-Some.expression)
-    (some_found tree c.in_ok-expression_in.field-0 _ c.in_ok-expression_in.ensures c.in-Some.expression c.in-Some.is) c.perform.ensures
+    (some_found tree _ _ c.in_ok-expression.ensures c.in-Some.expression c.in-Some.is) c.perform.ensures
 
 pub returns-in-None : goal.returns-in-None
 returns-in-None g c =
     let at = place_seen c.args.place.now in
     let ts = texts c.args.on in
     acted_unread c.put_unread.result (g.F.Function.sees c.args.function.now) c.args.site ts at _ _
-    (none_found (expression_tree (all_tabled at.scopes ts)) c.in_ok-expression_in.field-0 _ c.in_ok-expression_in.ensures c.in-None.is) c.put_unread.ensures
+    (none_found (expression_tree (all_tabled at.scopes ts)) _ _ c.in_ok-expression.ensures c.in-None.is) c.put_unread.ensures

@@ -17,11 +17,11 @@ returns-in-Some g c =
     let ts = texts c.args.on in
     let tree = expression_tree (all_tabled at.scopes ts) in
     back_with c.put_return_of.result (g.F.Function.sees c.args.function.now) c.args.site ts at _ _ c.returns.result (tree c.in-Some.value) (texts_some c.args.on c.if-is_empty.ensures) c.returns.ensures
-    (some_found tree c.in_ok-expression_in.field-0 _ c.in_ok-expression_in.ensures c.in-Some.value c.in-Some.is) c.put_return_of.ensures
+    (some_found tree _ _ c.in_ok-value.ensures c.in-Some.value c.in-Some.is) c.put_return_of.ensures
 
 pub returns-in-None : goal.returns-in-None
 returns-in-None g c =
     let at = place_seen c.args.place.now in
     let ts = texts c.args.on in
     back_unread c.put_unread.result (g.F.Function.sees c.args.function.now) c.args.site ts at _ _ (texts_some c.args.on c.if-is_empty.ensures)
-    (none_found (expression_tree (all_tabled at.scopes ts)) c.in_ok-expression_in.field-0 _ c.in_ok-expression_in.ensures c.in-None.is) c.put_unread.ensures
+    (none_found (expression_tree (all_tabled at.scopes ts)) _ _ c.in_ok-value.ensures c.in-None.is) c.put_unread.ensures

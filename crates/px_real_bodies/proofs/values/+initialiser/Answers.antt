@@ -95,13 +95,13 @@ put_initialiser_parts-returns-in-Some g t c =
     let st = c.args.scopes.now in
     let ts = texts c.args.on in
     put_as c.put_items.result _ _ _ _
-    (initialiser_list f st c.args.site ts c.args.depth (texts c.in-Some.between) c.if-depth-eq0.false (some_found texts c.in_ok-listed.field-0 _ c.in_ok-listed.ensures c.in-Some.between c.in-Some.is)) c.put_items.ensures
+    (initialiser_list f st c.args.site ts c.args.depth (texts c.in-Some.between) c.if-depth-eq0.false (some_found texts _ _ c.in_ok-between.ensures c.in-Some.between c.in-Some.is)) c.put_items.ensures
 
 pub put_initialiser_parts-returns-in-None : goal.put_initialiser_parts-returns-in-None
 put_initialiser_parts-returns-in-None g t c =
     let f = g.F.Function.sees c.args.function.now in
     put_as c.put_parts_of-in-None.result _ _ _ _
-    (initialiser_alone f c.args.scopes.now c.args.site (texts c.args.on) c.args.depth c.if-depth-eq0.false (none_found texts c.in_ok-listed.field-0 _ c.in_ok-listed.ensures c.in-None.is)) c.put_parts_of-in-None.ensures
+    (initialiser_alone f c.args.scopes.now c.args.site (texts c.args.on) c.args.depth c.if-depth-eq0.false (none_found texts _ _ c.in_ok-between.ensures c.in-None.is)) c.put_parts_of-in-None.ensures
 
 -- ---- lists stand less deep in one another
 

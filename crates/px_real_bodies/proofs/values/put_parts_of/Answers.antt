@@ -11,7 +11,7 @@ returns-in_ok-parts g c =
     let st = c.args.scopes.now in
     let ts = texts c.args.on in
     let tree = expression_tree (all_tabled st ts) in
-    let read : expression_in st ts ≡ Some (tree c.in-Some.expression) = some_found tree c.in_ok-expression_in.field-0 _ c.in_ok-expression_in.ensures c.in-Some.expression c.in-Some.is in
+    let read : expression_in st ts ≡ Some (tree c.in-Some.expression) = some_found tree _ _ c.in_ok-expression.ensures c.in-Some.expression c.in-Some.is in
     put_as c.put_all.result _ _ _ _ (parts_read f st c.args.site ts (tree c.in-Some.expression) read _ c.in_ok-value.ensures _ c.in_ok-parts.ensures) c.put_all.ensures
 
 pub returns-in-None : goal.returns-in-None
@@ -20,4 +20,4 @@ returns-in-None g c =
     let st = c.args.scopes.now in
     let ts = texts c.args.on in
     put_as c.put.result _ _ _ _
-    (ap (λ e. e ∷ []) (c.unread_at.ensures st) ∙ parts_unread f st c.args.site ts (none_found (expression_tree (all_tabled st ts)) c.in_ok-expression_in.field-0 _ c.in_ok-expression_in.ensures c.in-None.is)) c.put.ensures
+    (ap (λ e. e ∷ []) (c.unread_at.ensures st) ∙ parts_unread f st c.args.site ts (none_found (expression_tree (all_tabled st ts)) _ _ c.in_ok-expression.ensures c.in-None.is)) c.put.ensures
