@@ -1,4 +1,4 @@
-use Rattle.std.proofs.Common.{◌+◌, ◌∷◌, [], map, drop, refl, ap, sym, subst, ◌∙◌, arith}
+use Rattle.std.proofs.Common.{◌≡◌, ◌+◌, ◌∷◌, [], map, drop, refl, ap, sym, subst, ◌∙◌, ◌&&◌, ◌||◌, not, true, false, arith}
 use Rattle.std.specs.Prelude.{codes}
 use Rattle.std.proofs.lemmas.List.{drop_more, drop_all}
 use Rattle.px_syntax.specs.TypedTree as T
@@ -13,7 +13,7 @@ use Rattle.px_real_values.specs.Operands.{stop}
 use Rattle.px_real_bodies.specs.Places.{in_scopes, within, behind, Walked}
 use Rattle.px_real_bodies.specs.Phrases.{first_place, no_place}
 use Rattle.px_real_bodies.specs.Values.{parts_of, decided, decided_if}
-use Rattle.px_real_bodies.specs.Statements.{block_of, stopping, unread_there, acted_if, phrased, phrased_if, given_back, done, all_done}
+use Rattle.px_real_bodies.specs.Statements.{breaks, continues, block_of, is_never, stopping, unread_there, acted_if, phrased, phrased_if, given_back, done, all_done}
 use Rattle.px_real_bodies.specs.Views.{place_seen}
 use Rattle.px_real_bodies.proofs.PartLemmas.{put_as}
 use Rattle.px_real_bodies.proofs.SizeLemmas.{block_less, if_less, if_else_less, while_less, do_less, for_less, labelled_less, item_falls, part_falls, parts_fall, list_falls}
@@ -88,6 +88,32 @@ put_while-returns g t c =
     let at = place_seen c.args.place.now in
     while_walked c.put.result f c.args.in_loop at (place_seen c.scoped.new.place) _ _ c.args.site (held_in all c.args.condition) (statement_tree all c.args.body.now) _ _ _
     (c.in_ok-condition.ensures ∙ ap (decided f at.scopes c.args.site) c.within.ensures) c.in_ok-body.ensures c.in_ok-nothing.ensures c.put.ensures
+
+pub put_do-returns-in_ok-block : goal.put_do-returns-in_ok-block
+put_do-returns-in_ok-block g t c =
+    let f = g.F.Function.sees c.args.function.now in
+    let all = texts c.args.on in
+    let at = place_seen c.args.place.now in
+    let s = statement_tree all c.args.body.now in
+    let held = held_in all c.args.condition in
+    let once : (is_never at.scopes held && not (breaks s || continues s)) ≡ true =
+    ap (λ z. is_never at.scopes z && not (breaks s || continues s)) (sym c.within.ensures) ∙ sym (c.in_ok-is_once.ensures all) ∙ c.if-branch.true in
+    once_walked c.put.result f c.args.in_loop at (place_seen c.scoped.new.place) _ _ c.args.site s held _ once c.in_ok-block.ensures
+    (put_as c.put.result _ _ _ _ (ap (λ z. typed_statement z ∷ []) c.into_inner.ensures) c.put.ensures)
+
+pub put_do-returns : goal.put_do-returns
+put_do-returns g t c =
+    let f = g.F.Function.sees c.args.function.now in
+    let all = texts c.args.on in
+    let at = place_seen c.args.place.now in
+    let s = statement_tree all c.args.body.now in
+    let held = held_in all c.args.condition in
+    let more : (is_never at.scopes held && not (breaks s || continues s)) ≡ false =
+    ap (λ z. is_never at.scopes z && not (breaks s || continues s)) (sym c.within.ensures) ∙ sym (c.in_ok-is_once.ensures all) ∙ c.if-branch.false in
+    do_walked c.put_stop.result f c.args.in_loop at at _ _ c.args.site s held more refl
+    (put_as c.put_stop.result _ _ _ _
+    (ap (λ w. T.evaluate (stop (map typed_expression c.new.result.items) (f.run.word_number w) c.args.site) ∷ []) c.as_slice.ensures
+    ∙ ap (λ ps. T.evaluate (stop ps (f.run.word_number (codes "do")) c.args.site) ∷ []) (ap (map typed_expression) c.new.ensures.items)) c.put_stop.ensures)
 
 pub put_for-returns : goal.put_for-returns
 put_for-returns g t c =
