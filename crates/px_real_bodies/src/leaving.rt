@@ -1,4 +1,4 @@
-ghost use Rattle.std.specs.Prelude.{◌≡◌, ◌∷◌, [], List, map, option_map};
+ghost use Rattle.std.specs.Prelude.{◌≡◌, ◌∷◌, ◌||◌, not, [], List, map, option_map};
 ghost use Rattle.px_real_expressions.specs.Lexemes.{Lexeme};
 ghost use Rattle.px_real_statements.specs.StatementTree.{statements_of};
 ghost use Rattle.px_real_blocks.specs.Trees.{label_tree, statement_tree};
@@ -7,9 +7,9 @@ ghost use Rattle.px_real_bodies.specs.Statements as Rules;
 use px_base::Site;
 use px_real_blocks::{Label, Statement};
 
-/// Whether a `break` leaves the loop that the statement stands in.
+// Whether a `break` leaves the loop that the statement stands in.
 #[cycle(breaks)]
-pub fn breaks(statement: &Statement) -> bool
+fn breaks(statement: &Statement) -> bool
     ensures { (all : List Lexeme) → result ≡ Rules.breaks (statement_tree all statement.now) }
 {
     match statement {
@@ -34,9 +34,9 @@ fn some_break(statements: &[Statement]) -> bool
     false
 }
 
-/// Whether a `continue` goes on with the loop that the statement stands in.
+// Whether a `continue` goes on with the loop that the statement stands in.
 #[cycle(continues)]
-pub fn continues(statement: &Statement) -> bool
+fn continues(statement: &Statement) -> bool
     ensures { (all : List Lexeme) → result ≡ Rules.continues (statement_tree all statement.now) }
 {
     match statement {
@@ -60,6 +60,13 @@ fn some_continue(statements: &[Statement]) -> bool
         }
     }
     false
+}
+
+/// Whether it has no `break` and no `continue` of the loop that it stands in.
+pub fn stays(statement: &Statement) -> bool
+    ensures { (all : List Lexeme) → result ≡ not (Rules.breaks (statement_tree all statement.now) || Rules.continues (statement_tree all statement.now)) }
+{
+    !breaks(statement) && !continues(statement)
 }
 
 /// A label of a `switch`.

@@ -1,6 +1,7 @@
-ghost use Rattle.std.specs.Prelude.{◌≡◌, ◌++◌, ◌∷◌, [], map, codes, IfOk, OnOk, if◌then◌else◌};
+ghost use Rattle.std.specs.Prelude.{◌≡◌, ◌++◌, ◌∷◌, ◌&&◌, ◌||◌, not, [], List, map, codes, IfOk, OnOk, if◌then◌else◌};
 ghost use Rattle.px_syntax.specs.TypedTree as T;
 ghost use Rattle.px_syntax.specs.TypedViews.{typed_expression, typed_statement};
+ghost use Rattle.px_real_expressions.specs.Lexemes.{Lexeme};
 ghost use Rattle.px_real_symbols.specs.Symbols.{held_in};
 ghost use Rattle.px_real_statements.specs.StatementTree.{statements_of, block, choose, choose_else, while_loop, do_loop, for_loop, labelled};
 ghost use Rattle.px_real_blocks.specs.Trees.{label_tree, statement_tree};
@@ -14,7 +15,7 @@ ghost use Rattle.px_real_bodies.specs.Views.{place_seen};
 use crate::declarations::declare;
 use crate::function::Function;
 use crate::here::Here;
-use crate::leaving::{SwitchLabel, breaks, continues, first_switch_label};
+use crate::leaving::{SwitchLabel, first_switch_label, stays};
 use crate::phrases::{declaration_in, expression_in, first_place, no_place};
 use crate::place::Place;
 use crate::values::{decided, decided_if, put_parts_of, unread_at};
@@ -117,7 +118,24 @@ fn phrase_if<F: Function>(
     phrase(alloc, function, site, on, place, into)
 }
 
-// The step of a `for`, which may be missing, as a block.
+// The step of a `for`, which may be missing.
+fn act_if<F: Function>(
+    alloc: Global,
+    function: &F,
+    site: Site,
+    on: Texts,
+    place: &Place,
+    into: &mut Vec<TypedStatement>,
+) -> Result<(), NoMemory>
+    ensures { OnOk result (Walked (Rules.acted_if (F.sees function.now) site (texts on.entry) (place_seen place.now)) (map typed_statement into.old.items) (map typed_statement into.new.items) (place_seen place.now)) }
+{
+    if on.tokens.is_empty() {
+        return Ok(());
+    }
+    act(alloc, function, site, on, place, into)
+}
+
+// As a block.
 #[tactic(auto, using(px_syntax::proofs::TypedEquations::typed_trees))]
 fn step<F: Function>(
     alloc: Global,
@@ -129,9 +147,7 @@ fn step<F: Function>(
     ensures { IfOk result (λ b. typed_statement b.value ≡ Rules.block_of (Rules.acted_if (F.sees function.now) site (texts on.entry) (place_seen place.now))) }
 {
     let mut statements = Vec::new(alloc);
-    if !on.tokens.is_empty() {
-        act(alloc, function, site, on, place, &mut statements)?;
-    }
+    act_if(alloc, function, site, on, place, &mut statements)?;
     Ok(Box::new(alloc, TypedStatement::Block { statements })?)
 }
 
@@ -152,6 +168,16 @@ fn is_never(alloc: Global, scopes: &Scopes, on: Texts) -> Result<bool, NoMemory>
         Some(expression) => Ok(is_zero(&expression)),
         None => Ok(false),
     }
+}
+
+// Whether a `do` is done once, and nothing leaves it.
+fn is_once(alloc: Global, scopes: &Scopes, on: Texts, body: &Statement) -> Result<bool, NoMemory>
+    ensures { (all : List Lexeme) → IfOk result (λ b. b ≡ (Rules.is_never scopes.now (texts on.entry) && not (Rules.breaks (statement_tree all body.now) || Rules.continues (statement_tree all body.now)))) }
+{
+    if !is_never(alloc, scopes, on)? {
+        return Ok(false);
+    }
+    Ok(stays(body))
 }
 
 // `return`, with a value or without one.
@@ -364,8 +390,7 @@ fn put_do<F: Function>(
 ) -> Result<(), NoMemory>
     ensures { OnOk result (Walked (Rules.done (F.sees function.now) in_loop (do_loop site (statement_tree (texts on.entry) body.now) (held_in (texts on.entry) condition)) (place_seen place.old)) (map typed_statement into.old.items) (map typed_statement into.new.items) (place_seen place.new)) }
 {
-    let once = is_never(alloc, &place.scopes, within(on, condition))?;
-    if once && !(breaks(body) || continues(body)) {
+    if is_once(alloc, &place.scopes, within(on, condition), body)? {
         let block = scoped(alloc, function, on, in_loop, body, place)?;
         return put(into, Box::into_inner(block));
     }
