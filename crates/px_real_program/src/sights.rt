@@ -103,12 +103,20 @@ impl Sights {
         ensures { OnOk result (Sees self.old self.new (Rules.in_arguments (arguments_of (map typed_argument arguments.now)))) }
     {
         for argument in arguments {
-            match argument {
-                Argument::Passed { value } => self.see_expression(value)?,
-                Argument::Erased { parts } => self.see_expressions(parts)?,
-            }
+            self.see_argument(argument)?;
         }
         Ok(())
+    }
+
+    #[cycle(sights)]
+    #[tactic(auto, using(px_syntax::proofs::TypedEquations::typed_trees))]
+    fn see_argument(&mut self, argument: &Argument) -> Result<(), NoMemory>
+        ensures { OnOk result (Sees self.old self.new (Rules.in_argument (typed_argument argument.now))) }
+    {
+        match argument {
+            Argument::Passed { value } => self.see_expression(value),
+            Argument::Erased { parts } => self.see_expressions(parts),
+        }
     }
 
     #[cycle(sights)]
@@ -293,6 +301,15 @@ impl Sights {
                 self.see_statement(step)
             }
             TypedStatement::Evaluate { value } => self.see_expression(value),
+            TypedStatement::Access {
+                pointer,
+                parts,
+                cell,
+            } => {
+                self.see_expression(pointer)?;
+                self.see_expressions(parts)?;
+                self.see_block(cell.block)
+            }
         }
     }
 
