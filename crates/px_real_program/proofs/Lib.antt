@@ -1,3 +1,4 @@
 pub mod NameLemmas
 pub mod SightLemmas
+pub mod WantedLemmas
 mod WorkedByReading

@@ -1,5 +1,5 @@
 -- What the code comes to, step by step.
-use Rattle.std.specs.Prelude.{◌≡◌, ℕ, ◌+◌, ◌*◌, ◌<◌, List, [], ◌∷◌, map, flat_map, filter_map, ◌++◌, length, slice_get, slice_index_or, not, ◌&&◌, ◌||◌, Bool, false, Option, Some, None, is_some, is_none, option_map, unwrap_or, IfSome, codes, nat_eq, nat_lt, ⊤, ⊥, Vec, if◌then◌else◌}
+use Rattle.std.specs.Prelude.{◌≡◌, ℕ, ◌+◌, ◌*◌, ◌<◌, List, [], ◌∷◌, map, flat_map, filter_map, ◌++◌, length, slice_get, not, ◌&&◌, ◌||◌, Bool, false, Option, Some, None, is_some, is_none, option_map, unwrap_or, IfSome, codes, nat_eq, nat_lt, ⊤, ⊥, Vec, if◌then◌else◌}
 use Rattle.std.specs.declared.alloc.Global.{Global}
 use Rattle.std.specs.Str.{bytes_eq}
 use Rattle.std.specs.Map.{lookup}
@@ -22,7 +22,7 @@ use Rattle.px_real_types.specs.Scopes.{texts}
 use Rattle.px_real_types.specs.Types.{record_in, same_type}
 use Rattle.px_real_values.specs.Environment.{Signature}
 use Rattle.px_real_scopes.specs.Scopes.{BindingTree}
-use Rattle.px_real_scopes.specs.Lookups.{first_said, tag_of, number_in as number_in_tag, known_type}
+use Rattle.px_real_scopes.specs.Lookups.{first_said, flag_at, tag_of, number_in as number_in_tag, known_type}
 use Rattle.px_real_bodies.specs.Environments.{Run}
 use Rattle.px_real_links.specs.Files as Links
 use Rattle.px_real_links.specs.Files.{file_tree}
@@ -58,7 +58,7 @@ use Rattle.px_real_program.specs.Keeping.{AskedTree, all_asked, names_in}
 use Rattle.px_real_program.specs.Files.{texts_of}
 use Rattle.px_real_program.specs.Looks.{DefinedTree, LookTree}
 use Rattle.px_real_program.specs.Structs.{Key, by_tag, by_typedef, by_place, same_key, is_number, file_number, in_run, FieldTree, StructTree, structs_in, says_braces}
-use Rattle.px_real_program.specs.Hidden.{definitions_of}
+use Rattle.px_real_program.specs.Hidden.{definitions_of, is_shared}
 use Rattle.px_real_program.specs.Numbers.{KnownFile as KnownTree, structs_of_each, all_links, Place, same_place, is_kept_at, NumbersTree, id}
 use Rattle.px_real_program.specs.Sights.{Sight, a_block, in_expression, in_condition, function_seen, block_seen, word_seen}
 use Rattle.px_real_program.specs.Programs.{LeftTree, struct_count, says_fields, seen_structs}
@@ -177,10 +177,10 @@ abbrev pub first_listed : List StructTree → Option StructTree
 first_listed [] = None
 first_listed (s ∷ ss) = Some s
 
--- the first definition of each, and how many there are
+-- the first definition of each, and whether there are more
 pub record AreDefinitions (sss : List (List StructTree)) (d : Definitions) : Type 0 where
   pub first : (r : ℕ) → first_found sss (or_else (slice_get d.first.items r) (λ o. o) None) ≡ first_listed (definitions_of (flat_map (λ ss. ss) sss) r)
-  pub count : (r : ℕ) → slice_index_or d.count.items r 0 ≡ length (definitions_of (flat_map (λ ss. ss) sss) r)
+  pub shared : (r : ℕ) → flag_at d.shared.items r ≡ is_shared (flat_map (λ ss. ss) sss) r
 
 -- ---- all files
 

@@ -53,10 +53,13 @@ impl SeenStructs {
         let Some(look) = run.looks.get(at.file) else {
             return Ok(None);
         };
-        let Some(members) = look.after.members(at.number) else {
+        let Some(structs) = run.structs.get(at.file) else {
             return Ok(None);
         };
-        let Some(structs) = run.structs.get(at.file) else {
+        if at.number as usize >= structs.len() {
+            return Ok(None);
+        }
+        let Some(members) = look.after.members(at.number) else {
             return Ok(None);
         };
         let mut cells = Vec::new(alloc);
