@@ -83,6 +83,11 @@ all_numbers files fs =
 
 -- ---- the numbers of what the kept functions name
 
+-- the cells of a definition; an int that has no name where it has none
+abbrev pub filled : List ProfileType → List ProfileType
+filled [] = int ∷ []
+filled (t ∷ ts) = t ∷ ts
+
 module _ (fs : List KnownFile) where
   -- the structs of the run that some file sees, with their cells: the first such definition of each
   abbrev pub seen_from : List Bool → ℕ → List StructTree → List StructTree
@@ -95,13 +100,16 @@ module _ (fs : List KnownFile) where
   abbrev pub says_fields : ℕ → StructTree → Option (List FieldTree)
   says_fields r s = if nat_eq s.number r then s.fields else None
 
-  -- its cells; an int that has no name where it has none
-  abbrev pub filled : List ProfileType → List ProfileType
-  filled [] = int ∷ []
-  filled (t ∷ ts) = t ∷ ts
+  -- those of all files, seen or not
+  abbrev pub known_structs : List StructTree
+  known_structs = flat_map (λ (f : KnownFile). structs_in f.structs f.look) fs
+
+  -- one that is defined, and that no file sees which defines it
+  abbrev pub cells_unseen : ℕ → Option (List ProfileType)
+  cells_unseen r = option_map (λ xs. int ∷ []) (first_said (says_fields r) known_structs)
 
   abbrev pub cells_at : ℕ → Option (List ProfileType)
-  cells_at r = option_map (λ xs. filled (cells_of xs)) (first_said (says_fields r) seen_structs)
+  cells_at r = or_else (first_said (says_fields r) seen_structs) (λ xs. Some (filled (cells_of xs))) (cells_unseen r)
 
 -- a base and its pointers up to this one
 abbrev pub up_to : Base → ℕ → List ProfileType

@@ -61,7 +61,7 @@ use Rattle.px_real_program.specs.Structs.{Key, by_tag, by_typedef, by_place, sam
 use Rattle.px_real_program.specs.Hidden.{definitions_of, is_shared}
 use Rattle.px_real_program.specs.Numbers.{KnownFile as KnownTree, structs_of_each, all_links, Place, same_place, is_kept_at, NumbersTree, id}
 use Rattle.px_real_program.specs.Sights.{Sight, a_block, in_expression, in_condition, function_seen, block_seen, word_seen}
-use Rattle.px_real_program.specs.Programs.{LeftTree, struct_count, says_fields, seen_structs}
+use Rattle.px_real_program.specs.Programs.{LeftTree, struct_count, says_fields, seen_structs, known_structs}
 use Rattle.px_real_program.specs.Views.{file_view, defined_view, look_view, numbers_view}
 
 -- ---- keys, as they are found word by word
@@ -321,8 +321,10 @@ abbrev pub fields_at : List KnownTree → Option At → Option (List FieldTree)
 fields_at fs None = None
 fields_at fs (Some at) = or_else (known_struct fs at) (λ s. s.fields) None
 
-abbrev pub AreSeenStructs : List KnownTree → SeenStructs → Type 0
-AreSeenStructs fs s = (r : ℕ) → fields_at fs (or_else (slice_get s.first.items r) (λ o. o) None) ≡ first_said (says_fields fs r) (seen_structs fs)
+-- and which are defined at all
+pub record AreSeenStructs (fs : List KnownTree) (s : SeenStructs) : Type 0 where
+  pub first : (r : ℕ) → fields_at fs (or_else (slice_get s.first.items r) (λ o. o) None) ≡ first_said (says_fields fs r) (seen_structs fs)
+  pub defined : (r : ℕ) → flag_at s.defined.items r ≡ is_some (first_said (says_fields fs r) (known_structs fs))
 
 -- ---- what a file sees of the run
 
