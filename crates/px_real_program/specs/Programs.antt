@@ -222,7 +222,7 @@ struct_block m (Some ts) = K.Fields (map (value_in m) ts)
 abbrev pub block_in : List KnownFile → NumbersTree → ProfileType → BlockType
 block_in fs m t = or_else (number_of t) (λ r. struct_block m (cells_at fs r)) (K.One (value_in m t))
 
--- the names that stand behind those of left-out items: each is that of several external functions
+-- the names that stand behind those of left-out items: each is that of several external functions, or is weak where it is called
 abbrev pub several_from : ℕ → ℕ → List ProcId
 several_from n zero = []
 several_from n (suc k) = record { 0 = n } ∷ several_from (n + 1) k

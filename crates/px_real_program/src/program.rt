@@ -33,8 +33,8 @@ use px_terms::{Items, NoMemory};
 use px_typing::ProgramFault;
 use std::alloc::Global;
 
-/// The program that files say, and the numbers of the names that calls go to and that several files define: these are left out, and no left-out item
-/// has one.
+/// The program that files say, and the numbers of the names that calls go to and that several files define, or that the calling file makes weak: these
+/// are left out, and no left-out item has one.
 #[derive(Drop)]
 pub struct RealProgram {
     pub program: Program,
