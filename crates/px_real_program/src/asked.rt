@@ -136,10 +136,10 @@ fn wanted_in<'a>(
 {
     let mut wanted = Vec::new(alloc);
     wanted.resize(links.definitions.len(), false)?;
-    for _ in 0..links.definitions.len() {
+    for round in 0..links.definitions.len() {
         let now = wanted_flags(alloc, named, links)?;
         if now.as_slice() == wanted.as_slice() {
-            break;
+            return Ok(now);
         }
         add_wanted(alloc, look, &wanted, &now, named)?;
         wanted = now;

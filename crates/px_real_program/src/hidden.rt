@@ -316,10 +316,10 @@ impl<'a, 'b> Files<'a, 'b> {
         ensures { (l : LookTree) (ss : List StructTree) → look_seen self.now file ≡ Some l → slice_get (structs_seen self.now) file ≡ Some ss → IfOk result (λ v. v.items ≡ Rules.spread_over (all_structs_seen self.now) l (length ss) ss) }
     {
         let mut flags = self.others(alloc, file)?;
-        for _ in 0..flags.len() {
+        for round in 0..flags.len() {
             let next = self.spread(alloc, file, &flags)?;
             if next.as_slice() == flags.as_slice() {
-                break;
+                return Ok(flags);
             }
             flags = next;
         }

@@ -157,10 +157,10 @@ pub fn named_types(
     }
     // What came last is looked at, as long as there is more; each time but the last a struct comes.
     let mut from = 0;
-    for _ in 0..run.count {
+    for round in 0..run.count {
         let upto = types.codes.len();
         if from == upto {
-            break;
+            return Ok(types);
         }
         types.see_all_cells(alloc, run, seen, from)?;
         from = upto;
