@@ -98,7 +98,9 @@ impl NamedTypes {
         let mut ids = IndexMap::new(alloc);
         let mut next: u32 = 0;
         for code in self.codes.as_slice() {
-            ids.insert(*code, next)?;
+            if ids.get(code).is_none() {
+                ids.insert(*code, next)?;
+            }
             let Some(after) = next.checked_add(1) else {
                 return Err(NoMemory);
             };
