@@ -82,3 +82,27 @@ module _ (parts_in : List Lexeme → List Expression) (rest : List (List Lexeme)
       ap (λ z. z ++ item_parts parts_in rest) (put ∙ ap (λ z. old ++ parts_in z) is)
       ∙ append_assoc old (parts_in (without_designators ts)) (item_parts parts_in rest)
       ∙ sym (ap (λ z. old ++ z) (an_item ts some))
+
+-- ---- at each token, what was put and what is left are the whole
+
+module _ (parts_in : List Lexeme → List Expression) (all : List Lexeme) (first at n m : ℕ) (t : Lexeme) (old whole : List Expression) (next : drop at all ≡ t ∷ drop (at + 1) all) (now : m ≡ opened n t)
+    (so_far : old ++ item_parts parts_in (onto (held_in all (span first at)) (separated n (drop at all))) ≡ whole) where
+  -- an item ends
+  pub parts_ended : (item : List Lexeme) (new : List Expression) → n ≡ 0 → same t.terminal K.Comma ≡ true → item ≡ held_in all (span first at) →
+      ((rest : List (List Lexeme)) → new ++ item_parts parts_in rest ≡ old ++ item_parts parts_in (item ∷ rest)) →
+      new ++ item_parts parts_in (onto (held_in all (span (at + 1) (at + 1))) (separated m (drop (at + 1) all))) ≡ whole
+  parts_ended item new none comma is put =
+      let rest = separated 0 (drop (at + 1) all) in
+      ap (λ k. new ++ item_parts parts_in (onto (held_in all (span (at + 1) (at + 1))) (separated k (drop (at + 1) all)))) now
+      ∙ ap (λ z. new ++ item_parts parts_in z) (item_begun all at n t none comma)
+      ∙ put rest
+      ∙ ap (λ z. old ++ item_parts parts_in (z ∷ rest)) is
+      ∙ sym (ap (λ z. old ++ item_parts parts_in z) (item_ended all first at n t next none comma))
+      ∙ so_far
+
+  -- or goes on
+  pub parts_further : first ≤ at → at < length all → (nat_eq n 0 && same t.terminal K.Comma) ≡ false → old ++ item_parts parts_in (onto (held_in all (span first (at + 1))) (separated m (drop (at + 1) all))) ≡ whole
+  parts_further le lt on =
+      ap (λ k. old ++ item_parts parts_in (onto (held_in all (span first (at + 1))) (separated k (drop (at + 1) all)))) now
+      ∙ sym (ap (λ z. old ++ item_parts parts_in z) (item_further all first at n t le lt next on))
+      ∙ so_far

@@ -3,6 +3,8 @@ pub mod HeldLemmas
 pub mod SpelledLemmas
 pub mod ListLemmas
 pub mod ItemLemmas
+pub mod PartLemmas
+pub mod SizeLemmas
 pub mod LabelLemmas
 pub mod LengthLemmas
 pub mod StorageLemmas

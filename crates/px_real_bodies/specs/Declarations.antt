@@ -1,4 +1,4 @@
--- What declarations in bodies do (6.7): what they bring into scope, and what their initialisers evaluate.
+-- What declarations in bodies do (C11 6.7): what they bring into scope, and what their initialisers evaluate.
 use Rattle.std.specs.Prelude.{ℕ, List, [], ◌∷◌, ◌++◌, Bool, true, false, ◌&&◌, ◌||◌, not, Option, Some, None, codes, if◌then◌else◌}
 use Rattle.px_base.specs.declared.trace.Site.{Site}
 use Rattle.px_syntax.specs.TypedTree as T

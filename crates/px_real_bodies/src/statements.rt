@@ -117,7 +117,24 @@ fn phrase_if<F: Function>(
     phrase(alloc, function, site, on, place, into)
 }
 
-// The step of a `for`, which may be missing, as a block.
+// The step of a `for`, which may be missing.
+fn act_if<F: Function>(
+    alloc: Global,
+    function: &F,
+    site: Site,
+    on: Texts,
+    place: &Place,
+    into: &mut Vec<TypedStatement>,
+) -> Result<(), NoMemory>
+    ensures { OnOk result (Walked (Rules.acted_if (F.sees function.now) site (texts on.entry) (place_seen place.now)) (map typed_statement into.old.items) (map typed_statement into.new.items) (place_seen place.now)) }
+{
+    if on.tokens.is_empty() {
+        return Ok(());
+    }
+    act(alloc, function, site, on, place, into)
+}
+
+// As a block.
 #[tactic(auto, using(px_syntax::proofs::TypedEquations::typed_trees))]
 fn step<F: Function>(
     alloc: Global,
@@ -129,9 +146,7 @@ fn step<F: Function>(
     ensures { IfOk result (λ b. typed_statement b.value ≡ Rules.block_of (Rules.acted_if (F.sees function.now) site (texts on.entry) (place_seen place.now))) }
 {
     let mut statements = Vec::new(alloc);
-    if !on.tokens.is_empty() {
-        act(alloc, function, site, on, place, &mut statements)?;
-    }
+    act_if(alloc, function, site, on, place, &mut statements)?;
     Ok(Box::new(alloc, TypedStatement::Block { statements })?)
 }
 

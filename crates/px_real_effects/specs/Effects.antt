@@ -38,9 +38,9 @@ abbrev pub counting : Step → Arithmetic
 counting S.Increment = A.Add
 counting S.Decrement = A.Subtract
 
--- the pointer, these parts, and then an access that nobody reads
+-- the pointer, these parts, and then the access, by which nothing is stored
 abbrev pub accessed : Expression → List Expression → TypeId → Site → Statement
-accessed e ps block site = T.block (T.statements_of (evaluated (ps ++ T.cell e first_cell block site ∷ [])))
+accessed e ps block site = T.access e (T.expressions_of ps) first_cell block site
 
 -- what is written to a place of the profile, and else what is evaluated before it would be
 abbrev pub written : (ProfileType → Place → Statement) → List Expression → Target → List Statement

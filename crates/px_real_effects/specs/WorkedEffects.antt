@@ -11,7 +11,7 @@ use Rattle.px_real_expressions.specs.ExpressionTree.{ExpressionTree, name, paren
 use Rattle.px_real_types.specs.Types.{int, pointer_to}
 use Rattle.px_real_values.specs.Operands.{stop, first_cell}
 use Rattle.px_real_values.specs.WorkedValues.{at, w, env, x, y, p, q, gc, gs, getchar, number, of_one, of_two, the_x, the_p, the_q, block, cell}
-use Rattle.px_real_effects.specs.Effects.{performed, initialised, returned, argument_of, accessed}
+use Rattle.px_real_effects.specs.Effects.{performed, initialised, returned, argument_of}
 
 abbrev pub Does : ExpressionTree → List Statement → Type 0
 Does e ss = performed env e ≡ ss
@@ -19,6 +19,10 @@ Does e ss = performed env e ≡ ss
 -- a `Stop` as a statement
 abbrev pub stops : List Expression → List ℕ → ℕ → List Statement
 stops ps word n = T.evaluate (stop ps (w word) (at n)) ∷ []
+
+-- an access through p at token 1, at `->` behind it, with these parts between
+abbrev pub sets_outside : T.Expressions → List Statement
+sets_outside ps = T.access (the_p 1) ps first_cell (block 1) (at 2) ∷ []
 
 abbrev pub x_place : ℕ → T.Place
 x_place n = T.local_place 0 (at n)
@@ -46,9 +50,9 @@ pub record Assignments : Type 0 where
   pub to_member_of_global : Does (assign None (at 6) (member (at 3) (gs 1) (codes "v")) (getchar 8)) (T.evaluate (T.get_char (at 8)) ∷ [])
   pub update_of_global : Does (assign (Some O.Add) (at 4) (gc 1) (getchar 7)) (T.evaluate (T.get_char (at 7)) ∷ [])
   -- `p->c = 3`, `p->c = getchar()`, `p->c |= x`: the pointer, the right side, and then the access
-  pub to_outside_member : Does (assign None (at 6) (arrow 1 (codes "c")) (gc 8)) (accessed (the_p 1) [] (block 1) (at 2) ∷ [])
-  pub access_behind : Does (assign None (at 6) (arrow 1 (codes "c")) (getchar 8)) (accessed (the_p 1) (T.get_char (at 8) ∷ []) (block 1) (at 2) ∷ [])
-  pub update_of_member : Does (assign (Some O.BitOr) (at 6) (arrow 1 (codes "c")) (x 9)) (accessed (the_p 1) (the_x 9 ∷ []) (block 1) (at 2) ∷ [])
+  pub to_outside_member : Does (assign None (at 6) (arrow 1 (codes "c")) (gc 8)) (sets_outside T.no_expressions)
+  pub access_behind : Does (assign None (at 6) (arrow 1 (codes "c")) (getchar 8)) (sets_outside (T.an_expression (T.get_char (at 8)) T.no_expressions))
+  pub update_of_member : Does (assign (Some O.BitOr) (at 6) (arrow 1 (codes "c")) (x 9)) (sets_outside (T.an_expression (the_x 9) T.no_expressions))
   -- `*gc = getchar()`, `*p = gs`, `p->z = 3`, `q[x] = 3`, `x + 1 = 3`
   pub to_outside_place : Does (assign None (at 5) (prefixed P.Indirection (at 1) (gc 2)) (getchar 7)) (stops [] (codes "*") 1)
   pub to_struct : Does (assign None (at 4) (prefixed P.Indirection (at 1) (p 2)) (gs 6)) (stops (the_p 2 ∷ []) (codes "*") 1)
@@ -71,7 +75,7 @@ pub record Updates : Type 0 where
   pub counted_up : Does (step S.Increment (at 2) (x 1)) (T.update A.Add (x_place 1) (T.constant (pos 1)) ∷ [])
   pub counted_down : Does (prefixed P.Decrement (at 1) (arrow 3 (codes "v"))) (T.update A.Subtract (cell_v (the_p 3) 4) (T.constant (pos 1)) ∷ [])
   pub of_global : Does (prefixed P.Increment (at 1) (gc 3)) []
-  pub of_outside_member : Does (step S.Decrement (at 5) (arrow 1 (codes "c"))) (accessed (the_p 1) [] (block 1) (at 2) ∷ [])
+  pub of_outside_member : Does (step S.Decrement (at 5) (arrow 1 (codes "c"))) (sets_outside T.no_expressions)
   pub pointer_step : Does (step S.Increment (at 2) (q 1)) (stops [] (codes "++") 2)
 
 -- ---- calls, and other expressions

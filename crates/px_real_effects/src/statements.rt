@@ -1,4 +1,4 @@
-ghost use Rattle.std.specs.Prelude.{◌≡◌, ◌∷◌, ◌++◌, [], map, IfOk, OnOk};
+ghost use Rattle.std.specs.Prelude.{◌≡◌, ◌∷◌, ◌++◌, [], map, OnOk};
 ghost use Rattle.px_syntax.specs.TypedTree as T;
 ghost use Rattle.px_syntax.specs.TypedViews.{typed_expression, typed_statement};
 ghost use Rattle.px_real_types.specs.declared.shape.ProfileType.{ProfileType as Kind};
@@ -7,7 +7,7 @@ ghost use Rattle.px_real_effects.specs.Views.{elsewhere_seen};
 
 use crate::targets::Elsewhere;
 use px_base::{FieldId, Site};
-use px_real_values::{put as put_part, put_all};
+use px_real_values::put_all;
 use px_syntax::{CellLink, TypedExpression, TypedStatement};
 use px_terms::{NoMemory, TypeId};
 use std::alloc::Global;
@@ -46,28 +46,31 @@ pub fn put_all_evaluated(
     Ok(())
 }
 
-// The pointer, these parts, and then an access that nobody reads.
-#[tactic(auto, using(px_syntax::proofs::TypedEquations::typed_trees))]
-fn accessed(
+// The pointer, these parts, and then the access, by which nothing is stored.
+fn put_accessed(
     alloc: Global,
     pointer: TypedExpression,
     parts: Vec<TypedExpression>,
     block: TypeId,
     site: Site,
-) -> Result<TypedStatement, NoMemory>
-    ensures { IfOk result (λ s. typed_statement s ≡ Rules.accessed (typed_expression pointer) (map typed_expression parts.items) block site) }
+    into: &mut Vec<TypedStatement>,
+) -> Result<(), NoMemory>
+    ensures { OnOk result (map typed_statement into.new.items ≡ map typed_statement into.old.items ++ Rules.accessed (typed_expression pointer) (map typed_expression parts.items) block site ∷ []) }
 {
-    let link = CellLink {
+    let pointer = Box::new(alloc, pointer)?;
+    let cell = CellLink {
         field: FieldId(0),
         block,
         site,
     };
-    let access = TypedExpression::cell(alloc, pointer, link)?;
-    let mut all = parts;
-    put_part(&mut all, access)?;
-    let mut statements = Vec::new(alloc);
-    put_all_evaluated(alloc, all, &mut statements)?;
-    Ok(TypedStatement::Block { statements })
+    put(
+        into,
+        TypedStatement::Access {
+            pointer,
+            parts,
+            cell,
+        },
+    )
 }
 
 // What is evaluated before something would be written, where that is no place of the profile.
@@ -84,10 +87,7 @@ pub fn put_unwritten(
             pointer,
             block,
             site,
-        } => {
-            let access = accessed(alloc, pointer, parts, block, site)?;
-            put(into, access)
-        }
+        } => put_accessed(alloc, pointer, parts, block, site, into),
         Elsewhere::Away { parts: before } => {
             let mut all = before;
             put_all(&mut all, parts)?;
