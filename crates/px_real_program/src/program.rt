@@ -22,7 +22,7 @@ use crate::looking::{Defined, tokens_of};
 use crate::numbers::{Ids, Numbers, TypeIds};
 use crate::procedures::procedures;
 use crate::seen::SeenStructs;
-use crate::sights::Sights;
+use crate::sights::{Sights, see_procedure};
 use crate::types::{NamedTypes, all_types, blocks_of, named_types};
 use indexmap::IndexSet;
 use px_base::ProcId;
@@ -160,7 +160,7 @@ fn sights_of(alloc: Global, run: &KnownRun, texts: &IndexSet<&[u8]>) -> Result<S
     };
     let all = procedures(alloc, run, &numbers)?;
     for procedure in &all {
-        sights.see_procedure(procedure)?;
+        see_procedure(procedure, &mut sights)?;
     }
     Ok(sights)
 }
