@@ -100,6 +100,7 @@ module _ (outer : List (List ℕ)) (qs : List AskedTree) where
 
   -- where none is new, none ever is
   pub settled : (n : ℕ) → Flags n ≡ Before n → (m : ℕ) → Same (Names (m + n)) (Names n)
-  settled n h zero name = refl
+  settled n h zero name = let e : zero + n ≡ n = omega arith in ap (λ k. is_in (Names k) name) e
   settled n h (suc m) name =
-      ap (λ bs. is_in (outer ++ flagged_names bs qs) name) (wanted_same (Names (m + n)) (Names n) qs (settled n h m) ∙ h) ∙ sym (names_are n name)
+      let e : suc m + n ≡ suc (m + n) = omega arith in
+      ap (λ k. is_in (Names k) name) e ∙ ap (λ bs. is_in (outer ++ flagged_names bs qs) name) (wanted_same (Names (m + n)) (Names n) qs (settled n h m) ∙ h) ∙ sym (names_are n name)
