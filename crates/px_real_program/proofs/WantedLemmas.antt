@@ -91,7 +91,7 @@ module _ (outer : List (List ℕ)) (qs : List AskedTree) where
   grow (suc n) name e =
       in_append outer (flagged_names (Flags (suc n)) qs) name
       ∙ or_within (is_in outer name) (is_in (flagged_names (Flags n) qs) name) (is_in (flagged_names (Flags (suc n)) qs) name)
-      (flagged_within (Flags n) (Flags (suc n)) qs (length-map (is_wanted (Names n)) qs ∙ sym (length-map (is_wanted (Names (suc n))) qs)) (wanted_within (Names n) (Names (suc n)) qs (grow n)) name)
+      (flagged_within (Flags n) (Flags (suc n)) qs (length-map qs (is_wanted (Names n)) ∙ sym (length-map qs (is_wanted (Names (suc n))))) (wanted_within (Names n) (Names (suc n)) qs (grow n)) name)
       (sym (in_append outer (flagged_names (Flags n) qs) name) ∙ e)
 
   pub flags_grow : (n : ℕ) → AllFlagged (Before n) (Flags n)
