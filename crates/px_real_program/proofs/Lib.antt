@@ -1,3 +1,4 @@
+pub mod CalleeLemmas
 pub mod NameLemmas
 pub mod SightLemmas
 pub mod WantedLemmas
