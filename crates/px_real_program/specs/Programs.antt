@@ -51,13 +51,13 @@ procedures fs m = procedures_of_each fs m 0 fs
 
 -- ---- numbers of all that there may be: every name and word stands in a file or is one of these
 
+-- the words of a text with blanks between them, where this much of the first is seen
+abbrev pub separated_from : List ℕ → List ℕ → List (List ℕ)
+separated_from word [] = word ∷ []
+separated_from word (c ∷ cs) = if nat_eq c 32 then word ∷ separated_from [] cs else separated_from (word ++ c ∷ []) cs
+
 abbrev pub own_words : List (List ℕ)
-own_words =
-    codes "form" ∷ codes "type" ∷ codes "call" ∷ codes "cast" ∷ codes "constant" ∷ codes "string" ∷ codes "enum" ∷ codes "int" ∷ codes "malloc" ∷ codes "return" ∷
-    codes "NULL" ∷ codes "cleanup" ∷ codes "switch" ∷ codes "do" ∷ codes "goto" ∷ codes "case" ∷ codes "default" ∷ codes "break" ∷ codes "continue" ∷ codes "sizeof" ∷
-    codes "_Alignof" ∷ codes "__real__" ∷ codes "__imag__" ∷ codes "(" ∷ codes "[" ∷ codes "." ∷ codes "->" ∷ codes "?" ∷ codes "," ∷ codes "=" ∷ codes "*" ∷ codes "/" ∷ codes "%" ∷ codes "+" ∷ codes "-" ∷
-    codes "<<" ∷ codes ">>" ∷ codes "<" ∷ codes ">" ∷ codes "<=" ∷ codes ">=" ∷ codes "==" ∷ codes "!=" ∷ codes "&" ∷ codes "^" ∷ codes "|" ∷ codes "&&" ∷ codes "||" ∷ codes "~" ∷
-    codes "!" ∷ codes "++" ∷ codes "--" ∷ codes "*=" ∷ codes "/=" ∷ codes "%=" ∷ codes "+=" ∷ codes "-=" ∷ codes "<<=" ∷ codes ">>=" ∷ codes "&=" ∷ codes "^=" ∷ codes "|=" ∷ []
+own_words = separated_from [] (codes "form type call cast constant string enum int malloc return NULL cleanup switch do goto case default break continue sizeof _Alignof __real__ __imag__ ( [ . -> ? , = * / % + - << >> < > <= >= == != & ^ | && || ~ ! ++ -- *= /= %= += -= <<= >>= &= ^= |=")
 
 abbrev pub all_texts : List FileTree → List (List ℕ)
 all_texts files = first_sights bytes_eq (own_words ++ flat_map file_texts files)

@@ -47,7 +47,7 @@ const OWN_WORDS: &[u8] =
 
 // These words.
 fn own_texts<'a>(alloc: Global) -> Result<IndexSet<&'a [u8]>, NoMemory>
-    ensures { IfOk result (λ s. map (λ w. w.now) s.keys ≡ Rules.own_words) }
+    ensures { IfOk result (λ s. map (λ w. w.now) s.keys ≡ first_sights bytes_eq Rules.own_words) }
 {
     let mut texts = IndexSet::new(alloc);
     let mut start = 0;
