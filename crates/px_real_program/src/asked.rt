@@ -95,7 +95,8 @@ fn wanted_flags(
     named: &NamedWords,
     links: &FileLinks,
 ) -> Result<Vec<bool>, NoMemory>
-    ensures { (names : List (List ℕ)) → ((name : List ℕ) → is_among named.now name ≡ is_in names name) → IfOk result (λ v. v.items ≡ map (is_wanted_by names) (file_tree links.now).definitions) }
+    ensures flags { (names : List (List ℕ)) → ((name : List ℕ) → is_among named.now name ≡ is_in names name) → IfOk result (λ v. v.items ≡ map (is_wanted_by names) (file_tree links.now).definitions) }
+    ensures as_many { IfOk result (λ v. length v.items ≡ length links.now.definitions.items) }
 {
     let mut wanted = Vec::with_capacity(alloc, links.definitions.len())?;
     for definition in &links.definitions {
@@ -132,7 +133,8 @@ fn wanted_in<'a>(
     named: &mut NamedWords<'a>,
 ) -> Result<Vec<bool>, NoMemory>
     requires { length links.now.definitions.items ≡ length look.now.defined.items }
-    ensures { (outer : List (List ℕ)) (ws : List (Option (List ℕ))) → length ws ≡ length look.now.defined.items → ((name : List ℕ) → is_among named.old name ≡ is_in outer name) → IfOk result (λ v. v.items ≡ (let qs = asked_seen look.now links.now ws in map (Rules.is_wanted (Rules.named_within (length qs) outer qs)) qs)) }
+    ensures flags { (outer : List (List ℕ)) (ws : List (Option (List ℕ))) → length ws ≡ length look.now.defined.items → ((name : List ℕ) → is_among named.old name ≡ is_in outer name) → IfOk result (λ v. v.items ≡ (let qs = asked_seen look.now links.now ws in map (Rules.is_wanted (Rules.named_within (length qs) outer qs)) qs)) }
+    ensures as_many { IfOk result (λ v. length v.items ≡ length links.now.definitions.items) }
 {
     let mut wanted = Vec::new(alloc);
     wanted.resize(links.definitions.len(), false)?;

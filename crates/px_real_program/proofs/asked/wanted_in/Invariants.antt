@@ -6,5 +6,7 @@ use Rattle.px_real_program.proofs.asked.wanted_in.Given as goal
 
 -- so many rounds are done
 abbrev pub invariant-loop-round : goal.invariant-loop-round
-invariant-loop-round l = (outer : List (List ℕ)) (ws : List (Option (List ℕ))) → length ws ≡ length l.look.defined.items → ((name : List ℕ) → is_among l.initial.named name ≡ is_in outer name) →
-    ((name : List ℕ) → is_among l.named name ≡ is_in (Names outer (asked_seen l.look l.links ws) l.round) name) × (l.wanted.items ≡ Before outer (asked_seen l.look l.links ws) l.round)
+invariant-loop-round l =
+    (length l.wanted.items ≡ length l.links.definitions.items)
+    × ((outer : List (List ℕ)) (ws : List (Option (List ℕ))) → length ws ≡ length l.look.defined.items → ((name : List ℕ) → is_among l.initial.named name ≡ is_in outer name) →
+    ((name : List ℕ) → is_among l.named name ≡ is_in (Names outer (asked_seen l.look l.links ws) l.round) name) × (l.wanted.items ≡ Before outer (asked_seen l.look l.links ws) l.round))
