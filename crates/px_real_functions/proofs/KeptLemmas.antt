@@ -17,6 +17,13 @@ use Rattle.px_real_scopes.specs.Steps.{is_memory}
 use Rattle.px_real_bodies.specs.Places.{Place}
 use Rattle.px_real_functions.specs.Definitions.{kept_types, with_ints, with_parameter, with_locals, MadeTree}
 
+-- what is put behind others, of what is seen of each
+pub put_viewed : {A B C : Type 0} (f : B → C) (view : A → B) (xs : List A) (i : ℕ) (x : A) (done new : List C) (v : C) {o : List C} → i < length xs → x ≡ get_or xs i x → new ≡ done ++ v ∷ [] → v ≡ f (view x) →
+    done ++ map f (map view (drop i xs)) ≡ o → new ++ map f (map view (drop (i + 1) xs)) ≡ o
+put_viewed f view xs i x done new v lt is hn hv so_far =
+    ap (λ z. z ++ map f (map view (drop (i + 1) xs))) (hn ∙ ap (λ w. done ++ w ∷ []) hv) ∙ append_assoc done (f (view x) ∷ []) (map f (map view (drop (i + 1) xs)))
+    ∙ sym (ap (λ z. done ++ map f (map view z)) (drop_more xs i x lt ∙ ap (λ z. z ∷ drop (i + 1) xs) (sym is))) ∙ so_far
+
 none_there : {A : Type 0} (o : Option A) → ((a : A) → o ≡ Some a → ⊥) → o ≡ None
 none_there (Some a) h = absurd (h a refl)
 none_there None h = refl

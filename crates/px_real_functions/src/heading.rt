@@ -43,8 +43,8 @@ fn parameters_in(alloc: Global, scopes: &Scopes, on: Texts) -> Result<Option<Par
     }
 }
 
-// A function of the same type.
-fn copied(alloc: Global, function: &Function) -> Result<Function, NoMemory>
+/// A function of the same type.
+pub fn copied_function(alloc: Global, function: &Function) -> Result<Function, NoMemory>
     ensures { IfOk result (λ f. function_view f ≡ function_view function.now) }
 {
     Ok(Function {
@@ -54,8 +54,8 @@ fn copied(alloc: Global, function: &Function) -> Result<Function, NoMemory>
     })
 }
 
-// The function that is meant, if it is one.
-fn function_meant<'a>(meaning: Option<&'a Meaning>) -> Option<&'a Function>
+/// The function that is meant, if it is one.
+pub fn function_meant<'a>(meaning: Option<&'a Meaning>) -> Option<&'a Function>
     ensures { option_map (λ f. function_view f.now) result ≡ Rules.function_meant (option_map (λ m. meaning_view m.now) meaning.entry) }
 {
     match meaning {
@@ -88,7 +88,7 @@ fn headed(
         return Ok(None);
     }
     Ok(Some(Heading {
-        function: copied(alloc, function)?,
+        function: copied_function(alloc, function)?,
         parameters,
         held,
     }))

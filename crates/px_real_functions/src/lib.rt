@@ -12,7 +12,7 @@ mod run;
 mod shaped;
 
 pub use definition::define;
-pub use heading::{Heading, heading_of};
+pub use heading::{Heading, copied_function, function_meant, heading_of};
 pub use laws::worked_functions;
 pub use made::Made;
 pub use run::Run;

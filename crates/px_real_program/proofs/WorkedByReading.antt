@@ -18,11 +18,11 @@ links = record { two_statics = refl; two_programs = refl; another_file = refl; s
 
 left_out : LeftOut
 unfolding closed_at held_up_to type_at after_strings typed_front more_items arguments_at opened_at form_at primary_of index_at suffixes_at postfix_of cast_at typed_at prefixed_at measured_at measure_at operand_of more_at chain_at levels_at choice_at conditional_of assigned_at assignment_with readers expression_at phrase_at part_at condition_at named_front label_at labels_at items_at block_at if_at switch_at while_at do_at for_at goto_at return_at word_at simple_at unlabelled_of statement_of statement_at body_at unread_at braced_at role_of role group_behind group_at many_at attributes_at tag_at braces_at tagged_at atomic_at specifier_at specifiers_at qualifier_at inner_at core_at behind_at direct_at pointer_at declarator_of declarator_at value_at declared_at member_at more_declared declaration_by parameter_at line_at lines_from head_at separated_from enumerator_at other_at deeper_by opening_at procedures program_of
-left_out = record { weak = refl; weak_elsewhere = refl; duplicate = refl; parameters = refl; forms = refl; passed_over = refl }
+left_out = record { weak = refl; weak_elsewhere = refl; alias = refl; weak_here = refl; duplicate = refl; parameters = refl; forms = refl; passed_over = refl }
 
 statics : Statics
 unfolding closed_at held_up_to type_at after_strings typed_front more_items arguments_at opened_at form_at primary_of index_at suffixes_at postfix_of cast_at typed_at prefixed_at measured_at measure_at operand_of more_at chain_at levels_at choice_at conditional_of assigned_at assignment_with readers expression_at phrase_at part_at condition_at named_front label_at labels_at items_at block_at if_at switch_at while_at do_at for_at goto_at return_at word_at simple_at unlabelled_of statement_of statement_at body_at unread_at braced_at role_of role group_behind group_at many_at attributes_at tag_at braces_at tagged_at atomic_at specifier_at specifiers_at qualifier_at inner_at core_at behind_at direct_at pointer_at declarator_of declarator_at value_at declared_at member_at more_declared declaration_by parameter_at line_at lines_from head_at separated_from enumerator_at other_at deeper_by opening_at procedures program_of
-statics = record { unnamed = refl; each_other = refl; called = refl; in_an_initialiser = refl; as_a_member = refl }
+statics = record { unnamed = refl; each_other = refl; called = refl; called_by_a_weak_one = refl; in_an_initialiser = refl; as_a_member = refl }
 
 structs : Structs
 unfolding closed_at held_up_to type_at after_strings typed_front more_items arguments_at opened_at form_at primary_of index_at suffixes_at postfix_of cast_at typed_at prefixed_at measured_at measure_at operand_of more_at chain_at levels_at choice_at conditional_of assigned_at assignment_with readers expression_at phrase_at part_at condition_at named_front label_at labels_at items_at block_at if_at switch_at while_at do_at for_at goto_at return_at word_at simple_at unlabelled_of statement_of statement_at body_at unread_at braced_at role_of role group_behind group_at many_at attributes_at tag_at braces_at tagged_at atomic_at specifier_at specifiers_at qualifier_at inner_at core_at behind_at direct_at pointer_at declarator_of declarator_at value_at declared_at member_at more_declared declaration_by parameter_at line_at lines_from head_at separated_from enumerator_at other_at deeper_by opening_at procedures program_of

@@ -1,4 +1,4 @@
--- Which functions of a file are kept, and why others are left out.
+-- Which functions of a file are kept, and why others are left out; those that nobody names are passed over.
 use Rattle.std.specs.Prelude.{ℕ, zero, suc, ◌+◌, List, [], ◌∷◌, ◌++◌, map, flat_map, length, Bool, true, false, ◌&&◌, ◌||◌, not, Option, Some, None, is_some, is_none, codes, nat_lt, if◌then◌else◌}
 use Rattle.px_base.specs.Bounds.{most_parameters}
 use Rattle.px_expressions.specs.Reading.{or_else}
@@ -135,16 +135,17 @@ flagged_names (b ∷ bs) (a ∷ qs) = (if b then a.names else []) ++ flagged_nam
 abbrev pub is_wanted : List (List ℕ) → AskedTree → Bool
 is_wanted names a = not a.is_static || is_in names a.name
 
-abbrev pub is_kept : List (List ℕ) → AskedTree → Bool
-is_kept names a = is_none a.word && is_wanted names a
-
--- the names in the text of the file, and in the functions that are kept when so many follow one another
+-- the names in the text of the file, and in the functions that are wanted when so many follow one another
 abbrev pub named_within : ℕ → List (List ℕ) → List AskedTree → List (List ℕ)
 named_within zero outer qs = outer
-named_within (suc n) outer qs = let names = named_within n outer qs in outer ++ flagged_names (map (is_kept names) qs) qs
+named_within (suc n) outer qs = let names = named_within n outer qs in outer ++ flagged_names (map (is_wanted names) qs) qs
 
 abbrev pub named_in : List PieceTree → List AskedTree → List (List ℕ)
 named_in ps qs = named_within (length qs) (outer_names ps) qs
+
+-- a function is kept that is wanted, and for which no word says why it is left out
+abbrev pub is_kept : List (List ℕ) → AskedTree → Bool
+is_kept names a = is_none a.word && is_wanted names a
 
 -- whether each is kept
 abbrev pub kept_flags : List (List ℕ) → List AskedTree → List Bool

@@ -1,27 +1,29 @@
 -- A look over a file, item by item: what is in scope, and what the functions are that it defines.
-use Rattle.std.specs.Prelude.{ℕ, List, [], ◌∷◌, ◌++◌, map, flat_map, Bool, true, false, Option, Some, None}
+use Rattle.std.specs.Prelude.{ℕ, List, [], ◌∷◌, ◌++◌, map, flat_map, Bool, true, false, Option, Some, None, codes, if◌then◌else◌}
 use Rattle.px_base.specs.declared.trace.Site.{Site}
 use Rattle.px_expressions.specs.Reading.{or_else}
+use Rattle.px_expressions.specs.Terminals.{is_in}
 use Rattle.px_real_expressions.specs.Lexemes.{Lexeme}
 use Rattle.px_real_statements.specs.StatementTree.{StatementTree}
 use Rattle.px_real_declarations.specs.DeclarationTree.{SpecifierTree, tagged, DeclarationTree, declaration, assertion, HeadTree}
 use Rattle.px_real_declarations.specs.Names.{declared_name}
+use Rattle.px_real_types.specs.Linkage.{weak_names}
 use Rattle.px_real_types.specs.declared.shape.Base.TheVariants as B
 use Rattle.px_real_types.specs.declared.shape.Shape.{Shape}
 use Rattle.px_real_types.specs.declared.shape.Shape.TheVariants as S
 use Rattle.px_real_scopes.specs.Scopes.{FunctionTree, Scopes, nothing_in_scope}
-use Rattle.px_real_scopes.specs.Lookups.{are_types, tag_of, number_in, meanings}
+use Rattle.px_real_scopes.specs.Lookups.{are_types, meaning_of, tag_of, number_in, meanings}
 use Rattle.px_real_scopes.specs.Behind.{behind, behind_head}
 use Rattle.px_real_locals.specs.Addressed.{is_addressed}
 use Rattle.px_real_bodies.specs.Environments.{Run}
 use Rattle.px_real_items.specs.Externals.{ExternalTree, declares, defines}
-use Rattle.px_real_functions.specs.Parameters.{HeadingTree, heading}
+use Rattle.px_real_functions.specs.Parameters.{HeadingTree, function_meant, heading}
 use Rattle.px_real_functions.specs.Definitions.{MadeTree, made, behind_body}
 use Rattle.px_real_functions.specs.Shaped.{shaped_name}
 use Rattle.px_real_program.specs.Files.{PieceTree, first_place, texts_of}
 
 -- what is defined as a function, or has the shape of one: its name if it has one, its place, and its tokens; unless it is left out as a form, the
--- function and what it does
+-- function and what it does, if it has a body
 pub record DefinedTree : Type 0 where
   pub name : Option (List ℕ)
   pub site : Site
@@ -44,6 +46,28 @@ a_form name ts = record { name = name; site = first_place ts; tokens = ts; funct
 abbrev pub left_as_form : Option (List ℕ) → List Lexeme → Scopes → Step
 left_as_form name ts st = record { defined = a_form name ts ∷ []; after = st }
 
+-- ---- a declaration that makes a function another's, by the attributes `alias` and `ifunc` of GNU C: it is the function's definition
+
+abbrev pub alias_words : List (List ℕ)
+alias_words = codes "alias" ∷ codes "__alias__" ∷ codes "ifunc" ∷ codes "__ifunc__" ∷ []
+
+abbrev pub says_alias : List Lexeme → Bool
+says_alias [] = false
+says_alias (t ∷ ts) = if is_in alias_words t.text then true else says_alias ts
+
+-- the function that a name means, with the tokens of its declaration
+abbrev pub a_declared : Scopes → List Lexeme → List ℕ → List DefinedTree
+a_declared st ts name = or_else (function_meant (meaning_of st.bindings name)) (λ f. record { name = Some name; site = first_place ts; tokens = ts; function = Some f; body = None } ∷ []) []
+
+-- the first of these that is made so
+abbrev pub first_declared : Scopes → List Lexeme → List (List ℕ) → List DefinedTree
+first_declared st ts [] = []
+first_declared st ts (name ∷ names) = a_declared st ts name
+
+-- by a declaration of these tokens, where it is in scope
+abbrev pub made_alias : Scopes → List Lexeme → DeclarationTree → List DefinedTree
+made_alias st ts d = if says_alias ts then first_declared st ts (weak_names d) else []
+
 -- what isn't read
 abbrev pub unread : Bool → List Lexeme → Scopes → Step
 unread true ts st = left_as_form (shaped_name (are_types st.bindings) ts) ts st
@@ -52,6 +76,10 @@ unread false ts st = without_function st
 -- a declaration that isn't read in all that it holds declares nothing
 abbrev pub behind_read : Scopes → DeclarationTree → Scopes
 behind_read st d = or_else (behind st d) (λ st1. st1) st
+
+-- a declaration, which is in scope
+abbrev pub behind_declaration : List Lexeme → DeclarationTree → Scopes → Step
+behind_declaration ts d st = record { defined = made_alias st ts d; after = st }
 
 module _ (run : Run) where
   -- a function, where its head is in scope
@@ -66,7 +94,7 @@ module _ (run : Run) where
 
   -- a function whose head isn't read in all that it holds is a form
   abbrev pub read : List Lexeme → ExternalTree → Scopes → Step
-  read ts (declares d) st = without_function (behind_read st d)
+  read ts (declares d) st = behind_declaration ts d (behind_read st d)
   read ts (defines h ss) st = or_else (behind_head st h) (behind_its_head ts h ss) (left_as_form (declared_name h.declarator) ts st)
 
   abbrev pub step : PieceTree → Scopes → Step

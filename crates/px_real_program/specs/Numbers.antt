@@ -14,6 +14,7 @@ use Rattle.px_real_links.specs.declared.callee.Callee.{Callee}
 use Rattle.px_real_links.specs.declared.callee.Callee.TheVariants as C
 use Rattle.px_real_links.specs.Callees.{callee_of}
 use Rattle.px_real_links.specs.Files as Links
+use Rattle.px_real_links.specs.Files.{is_named}
 use Rattle.px_real_program.specs.Files.{PieceTree, FileTree}
 use Rattle.px_real_program.specs.Looks.{DefinedTree, LookTree, look, bare, no_run}
 use Rattle.px_real_program.specs.Structs.{keys_of_files, all_keys, run_numbers, in_run, in_file, StructTree, structs_in}
@@ -99,8 +100,19 @@ abbrev pub if_kept : List KnownFile → Callee → Callee
 if_kept fs (C.Function file number) = if is_kept_at fs (file, number) then C.Function file number else C.LeftOut
 if_kept fs c = c
 
+-- a name that a file makes weak, or another's, is that of no function of other files there; its own of that name is left out
+abbrev pub unless_weak : List (List ℕ) → List ℕ → Callee → Callee
+unless_weak weak name (C.Function file number) = if is_named weak name then C.LeftOut else C.Function file number
+unless_weak weak name c = c
+
+abbrev pub weak_in : List Links.FileTree → ℕ → List (List ℕ)
+weak_in ls file = or_else (slice_get ls file) (λ f. f.weak) []
+
+abbrev pub callee_in : List Links.FileTree → ℕ → List ℕ → Callee
+callee_in ls file name = unless_weak (weak_in ls file) name (callee_of ls file name)
+
 abbrev pub called : List KnownFile → ℕ → List ℕ → Callee
-called fs file name = if_kept fs (callee_of (all_links fs) file name)
+called fs file name = if_kept fs (callee_in (all_links fs) file name)
 
 -- ---- numbers
 

@@ -51,13 +51,13 @@ procedures fs m = procedures_of_each fs m 0 fs
 
 -- ---- numbers of all that there may be: every name and word stands in a file or is one of these
 
+-- the words of a text with blanks between them, where this much of the first is seen
+abbrev pub separated_from : List ℕ → List ℕ → List (List ℕ)
+separated_from word [] = word ∷ []
+separated_from word (c ∷ cs) = if nat_eq c 32 then word ∷ separated_from [] cs else separated_from (word ++ c ∷ []) cs
+
 abbrev pub own_words : List (List ℕ)
-own_words =
-    codes "form" ∷ codes "type" ∷ codes "call" ∷ codes "cast" ∷ codes "constant" ∷ codes "string" ∷ codes "enum" ∷ codes "int" ∷ codes "malloc" ∷ codes "return" ∷
-    codes "NULL" ∷ codes "cleanup" ∷ codes "switch" ∷ codes "do" ∷ codes "goto" ∷ codes "case" ∷ codes "default" ∷ codes "break" ∷ codes "continue" ∷ codes "sizeof" ∷
-    codes "_Alignof" ∷ codes "__real__" ∷ codes "__imag__" ∷ codes "(" ∷ codes "[" ∷ codes "." ∷ codes "->" ∷ codes "?" ∷ codes "," ∷ codes "=" ∷ codes "*" ∷ codes "/" ∷ codes "%" ∷ codes "+" ∷ codes "-" ∷
-    codes "<<" ∷ codes ">>" ∷ codes "<" ∷ codes ">" ∷ codes "<=" ∷ codes ">=" ∷ codes "==" ∷ codes "!=" ∷ codes "&" ∷ codes "^" ∷ codes "|" ∷ codes "&&" ∷ codes "||" ∷ codes "~" ∷
-    codes "!" ∷ codes "++" ∷ codes "--" ∷ codes "*=" ∷ codes "/=" ∷ codes "%=" ∷ codes "+=" ∷ codes "-=" ∷ codes "<<=" ∷ codes ">>=" ∷ codes "&=" ∷ codes "^=" ∷ codes "|=" ∷ []
+own_words = separated_from [] (codes "form type call cast constant string enum int malloc return NULL cleanup switch do goto case default break continue sizeof _Alignof __real__ __imag__ ( [ . -> ? , = * / % + - << >> < > <= >= == != & ^ | && || ~ ! ++ -- *= /= %= += -= <<= >>= &= ^= |=")
 
 abbrev pub all_texts : List FileTree → List (List ℕ)
 all_texts files = first_sights bytes_eq (own_words ++ flat_map file_texts files)
@@ -83,6 +83,11 @@ all_numbers files fs =
 
 -- ---- the numbers of what the kept functions name
 
+-- the cells of a definition; an int that has no name where it has none
+abbrev pub filled : List ProfileType → List ProfileType
+filled [] = int ∷ []
+filled (t ∷ ts) = t ∷ ts
+
 module _ (fs : List KnownFile) where
   -- the structs of the run that some file sees, with their cells: the first such definition of each
   abbrev pub seen_from : List Bool → ℕ → List StructTree → List StructTree
@@ -95,13 +100,16 @@ module _ (fs : List KnownFile) where
   abbrev pub says_fields : ℕ → StructTree → Option (List FieldTree)
   says_fields r s = if nat_eq s.number r then s.fields else None
 
-  -- its cells; an int that has no name where it has none
-  abbrev pub filled : List ProfileType → List ProfileType
-  filled [] = int ∷ []
-  filled (t ∷ ts) = t ∷ ts
+  -- those of all files, seen or not
+  abbrev pub known_structs : List StructTree
+  known_structs = flat_map (λ (f : KnownFile). structs_in f.structs f.look) fs
+
+  -- one that is defined, and that no file sees which defines it
+  abbrev pub cells_unseen : ℕ → Option (List ProfileType)
+  cells_unseen r = option_map (λ xs. int ∷ []) (first_said (says_fields r) known_structs)
 
   abbrev pub cells_at : ℕ → Option (List ProfileType)
-  cells_at r = option_map (λ xs. filled (cells_of xs)) (first_said (says_fields r) seen_structs)
+  cells_at r = or_else (first_said (says_fields r) seen_structs) (λ xs. Some (filled (cells_of xs))) (cells_unseen r)
 
 -- a base and its pointers up to this one
 abbrev pub up_to : Base → ℕ → List ProfileType
@@ -214,7 +222,7 @@ struct_block m (Some ts) = K.Fields (map (value_in m) ts)
 abbrev pub block_in : List KnownFile → NumbersTree → ProfileType → BlockType
 block_in fs m t = or_else (number_of t) (λ r. struct_block m (cells_at fs r)) (K.One (value_in m t))
 
--- the names that stand behind those of left-out items: each is that of several external functions
+-- the names that stand behind those of left-out items: each is that of several external functions, or is weak where it is called
 abbrev pub several_from : ℕ → ℕ → List ProcId
 several_from n zero = []
 several_from n (suc k) = record { 0 = n } ∷ several_from (n + 1) k

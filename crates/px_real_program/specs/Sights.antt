@@ -2,7 +2,7 @@
 use Rattle.std.specs.Prelude.{ℕ, List, [], ◌∷◌, ◌++◌, flat_map, Option, Some, None}
 use Rattle.px_terms.specs.declared.types.ValueType.{ValueType}
 use Rattle.px_terms.specs.declared.types.ValueType.TheVariants as V
-use Rattle.px_syntax.specs.TypedTree.{Expression, constant, null, local, negated, arithmetic, truth, cell, allocate, get_char, call, stop, Expressions, no_expressions, an_expression, Arguments, no_arguments, an_argument, passed, erased, Condition, compare, word, pointer, both, either, opposite, Place, local_place, cell_place, Statement, block, declare, assign, update, run_call, free, input, choose, loop, break, continue, return, evaluate, Statements, no_statements, a_statement}
+use Rattle.px_syntax.specs.TypedTree.{Expression, constant, null, local, negated, arithmetic, truth, cell, allocate, get_char, call, stop, Expressions, no_expressions, an_expression, Arguments, no_arguments, an_argument, Argument, passed, erased, Condition, compare, word, pointer, both, either, opposite, Place, local_place, cell_place, Statement, block, declare, assign, update, run_call, free, input, choose, loop, break, continue, return, evaluate, access, Statements, no_statements, a_statement}
 use Rattle.px_syntax.specs.ProgramTree.{ProcedureTree}
 
 pub data Sight : Type 0 where
@@ -34,8 +34,11 @@ abbrev mutual
 
   pub in_arguments : Arguments → List Sight
   in_arguments no_arguments = []
-  in_arguments (an_argument (passed e) xs) = in_expression e ++ in_arguments xs
-  in_arguments (an_argument (erased parts) xs) = in_expressions parts ++ in_arguments xs
+  in_arguments (an_argument a xs) = in_argument a ++ in_arguments xs
+
+  pub in_argument : Argument → List Sight
+  in_argument (passed e) = in_expression e
+  in_argument (erased parts) = in_expressions parts
 
   pub in_condition : Condition → List Sight
   in_condition (compare r e f site) = in_expression e ++ in_expression f
@@ -72,6 +75,7 @@ abbrev mutual
   in_statement continue = []
   in_statement (return e) = in_expression_if e
   in_statement (evaluate e) = in_expression e
+  in_statement (access e ps field t site) = in_expression e ++ (in_expressions ps ++ a_block t.0 ∷ [])
 
   pub in_statements : Statements → List Sight
   in_statements no_statements = []

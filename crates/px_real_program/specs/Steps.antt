@@ -1,5 +1,5 @@
 -- What the code comes to, step by step.
-use Rattle.std.specs.Prelude.{◌≡◌, ℕ, ◌+◌, ◌*◌, ◌<◌, List, [], ◌∷◌, map, flat_map, filter_map, length, slice_get, slice_index_or, not, ◌&&◌, Bool, false, Option, Some, None, is_some, option_map, unwrap_or, IfSome, codes, nat_eq, nat_lt, ⊤, ⊥, Vec, if◌then◌else◌}
+use Rattle.std.specs.Prelude.{◌≡◌, ℕ, ◌+◌, ◌*◌, ◌<◌, List, [], ◌∷◌, map, flat_map, filter_map, ◌++◌, length, slice_get, not, ◌&&◌, ◌||◌, Bool, false, Option, Some, None, is_some, is_none, option_map, unwrap_or, IfSome, codes, nat_eq, nat_lt, ⊤, ⊥, Vec, if◌then◌else◌}
 use Rattle.std.specs.declared.alloc.Global.{Global}
 use Rattle.std.specs.Str.{bytes_eq}
 use Rattle.std.specs.Map.{lookup}
@@ -12,6 +12,7 @@ use Rattle.px_syntax.specs.declared.typed_expression.CellLink.{CellLink}
 use Rattle.px_syntax.specs.declared.typed_expression.Condition.{Condition}
 use Rattle.px_syntax.specs.TypedViews.{typed_expression, typed_condition}
 use Rattle.px_expressions.specs.Reading.{or_else}
+use Rattle.px_expressions.specs.Terminals.{is_in}
 use Rattle.px_typing.specs.Sights.{first_sights, number_in}
 use Rattle.px_real_types.specs.declared.shape.Base.{Base}
 use Rattle.px_real_types.specs.declared.shape.Base.TheVariants as B
@@ -21,7 +22,7 @@ use Rattle.px_real_types.specs.Scopes.{texts}
 use Rattle.px_real_types.specs.Types.{record_in, same_type}
 use Rattle.px_real_values.specs.Environment.{Signature}
 use Rattle.px_real_scopes.specs.Scopes.{BindingTree}
-use Rattle.px_real_scopes.specs.Lookups.{first_said, tag_of, number_in as number_in_tag, known_type}
+use Rattle.px_real_scopes.specs.Lookups.{first_said, flag_at, tag_of, number_in as number_in_tag, known_type}
 use Rattle.px_real_bodies.specs.Environments.{Run}
 use Rattle.px_real_links.specs.Files as Links
 use Rattle.px_real_links.specs.Files.{file_tree}
@@ -53,14 +54,14 @@ use Rattle.px_real_program.specs.declared.seen.SeenStructs.{SeenStructs}
 use Rattle.px_real_program.specs.declared.types.NamedTypes.{NamedTypes}
 use Rattle.px_real_links.specs.declared.definition.FileLinks.{FileLinks}
 use Rattle.px_real_program.specs.declared.looking.Look.{Look}
-use Rattle.px_real_program.specs.Keeping.{AskedTree, all_asked}
+use Rattle.px_real_program.specs.Keeping.{AskedTree, all_asked, names_in}
 use Rattle.px_real_program.specs.Files.{texts_of}
-use Rattle.px_real_program.specs.Looks.{LookTree}
+use Rattle.px_real_program.specs.Looks.{DefinedTree, LookTree}
 use Rattle.px_real_program.specs.Structs.{Key, by_tag, by_typedef, by_place, same_key, is_number, file_number, in_run, FieldTree, StructTree, structs_in, says_braces}
-use Rattle.px_real_program.specs.Hidden.{definitions_of}
+use Rattle.px_real_program.specs.Hidden.{definitions_of, is_shared}
 use Rattle.px_real_program.specs.Numbers.{KnownFile as KnownTree, structs_of_each, all_links, Place, same_place, is_kept_at, NumbersTree, id}
 use Rattle.px_real_program.specs.Sights.{Sight, a_block, in_expression, in_condition, function_seen, block_seen, word_seen}
-use Rattle.px_real_program.specs.Programs.{LeftTree, struct_count, says_fields, seen_structs}
+use Rattle.px_real_program.specs.Programs.{LeftTree, struct_count, says_fields, seen_structs, known_structs}
 use Rattle.px_real_program.specs.Views.{file_view, defined_view, look_view, numbers_view}
 
 -- ---- keys, as they are found word by word
@@ -140,9 +141,27 @@ reason_word R.Weak = codes "weak"
 reason_word R.Duplicate = codes "duplicate"
 reason_word R.Parameters = codes "parameters"
 
--- what is asked of the functions that a look found
-abbrev pub asked_seen : Look → FileLinks → List (Option Reason) → List AskedTree
-asked_seen l f rs = all_asked (map defined_view l.defined.items) (file_tree f).definitions (map (option_map reason_word) rs)
+-- what is asked of the functions that a look found, with their words
+abbrev pub asked_seen : Look → FileLinks → List (Option (List ℕ)) → List AskedTree
+asked_seen l f ws = all_asked (map defined_view l.defined.items) (file_tree f).definitions ws
+
+-- by what links see of it
+abbrev pub is_wanted_by : List (List ℕ) → Links.DefinitionTree → Bool
+is_wanted_by names x = not (x.is_static && x.is_read) || is_in names x.name
+
+-- the names in those that are flagged now, and weren't before
+abbrev pub names_since : List Bool → List Bool → List DefinedTree → List (List ℕ)
+names_since (b ∷ bs) (c ∷ cs) (d ∷ ds) = (if c && not b then names_in d.tokens else []) ++ names_since bs cs ds
+names_since _ _ _ = []
+
+-- whether each that is wanted is kept, and the words of those that aren't
+abbrev pub kept_of : List Bool → List (Option (List ℕ)) → List Bool
+kept_of (b ∷ bs) (w ∷ ws) = (is_none w && b) ∷ kept_of bs ws
+kept_of _ _ = []
+
+abbrev pub left_of : List Bool → List (Option (List ℕ)) → List (Option (List ℕ))
+left_of (b ∷ bs) (w ∷ ws) = (if b then w else None) ∷ left_of bs ws
+left_of _ _ = []
 
 -- ---- definitions by their numbers in the run, and what stands between braces by the numbers in a file
 
@@ -158,10 +177,10 @@ abbrev pub first_listed : List StructTree → Option StructTree
 first_listed [] = None
 first_listed (s ∷ ss) = Some s
 
--- the first definition of each, and how many there are
+-- the first definition of each, and whether there are more
 pub record AreDefinitions (sss : List (List StructTree)) (d : Definitions) : Type 0 where
   pub first : (r : ℕ) → first_found sss (or_else (slice_get d.first.items r) (λ o. o) None) ≡ first_listed (definitions_of (flat_map (λ ss. ss) sss) r)
-  pub count : (r : ℕ) → slice_index_or d.count.items r 0 ≡ length (definitions_of (flat_map (λ ss. ss) sss) r)
+  pub shared : (r : ℕ) → flag_at d.shared.items r ≡ is_shared (flat_map (λ ss. ss) sss) r
 
 -- ---- all files
 
@@ -270,7 +289,6 @@ pub record IsKnown (f : KnownTree) (k : Known) : Type 0 where
   pub structs : f.structs ≡ k.structs.now
   pub kept : f.kept ≡ k.kept.now.kept.items
   pub left : f.left ≡ map (option_map reason_word) k.kept.now.left.items
-  pub places : IsPlaces k.structs.now k.places.now
 
 pub record AreKnown (fs : List KnownTree) (r : KnownRun) : Type 0 where
   pub pieces : map (λ (f : KnownTree). f.pieces) fs ≡ map (λ f. (file_view f).pieces) r.files.now
@@ -279,11 +297,10 @@ pub record AreKnown (fs : List KnownTree) (r : KnownRun) : Type 0 where
   pub structs : map (λ (f : KnownTree). f.structs) fs ≡ numbers_view r.structs.items
   pub kept : map (λ (f : KnownTree). f.kept) fs ≡ map (λ k. k.kept.items) r.kept.items
   pub left : map (λ (f : KnownTree). f.left) fs ≡ map (λ k. map (option_map reason_word) k.left.items) r.kept.items
-  pub places : (i : ℕ) → IfSome (slice_get r.structs.items i) (λ ns. IfSome (slice_get r.places.items i) (λ ps. IsPlaces ns.items ps.items))
   pub links : map file_tree r.links.items ≡ all_links fs
   pub count : struct_count fs ≡ r.count
 
--- something is known of each file
+-- something is known of each file, and by the numbers in the run the first struct of a file has its place
 pub record IsWhole (r : KnownRun) : Type 0 where
   pub looks : length r.looks.items ≡ length r.files.now
   pub hidden : length r.hidden.items ≡ length r.files.now
@@ -291,6 +308,7 @@ pub record IsWhole (r : KnownRun) : Type 0 where
   pub places : length r.places.items ≡ length r.files.now
   pub kept : length r.kept.items ≡ length r.files.now
   pub links : length r.links.items ≡ length r.files.now
+  pub first : (i : ℕ) → IfSome (slice_get r.structs.items i) (λ ns. IfSome (slice_get r.places.items i) (λ ps. IsPlaces ns.items ps.items))
   pub functions : (i : ℕ) → IfSome (slice_get r.looks.items i) (λ l. IfSome (slice_get r.kept.items i) (λ k. (length k.kept.items ≡ length l.defined.items) × (length k.left.items ≡ length l.defined.items)))
 
 -- ---- by their numbers in the run, the first definition of each struct that its file sees
@@ -303,8 +321,10 @@ abbrev pub fields_at : List KnownTree → Option At → Option (List FieldTree)
 fields_at fs None = None
 fields_at fs (Some at) = or_else (known_struct fs at) (λ s. s.fields) None
 
-abbrev pub AreSeenStructs : List KnownTree → SeenStructs → Type 0
-AreSeenStructs fs s = (r : ℕ) → fields_at fs (or_else (slice_get s.first.items r) (λ o. o) None) ≡ first_said (says_fields fs r) (seen_structs fs)
+-- and which are defined at all
+pub record AreSeenStructs (fs : List KnownTree) (s : SeenStructs) : Type 0 where
+  pub first : (r : ℕ) → fields_at fs (or_else (slice_get s.first.items r) (λ o. o) None) ≡ first_said (says_fields fs r) (seen_structs fs)
+  pub defined : (r : ℕ) → flag_at s.defined.items r ≡ is_some (first_said (says_fields fs r) (known_structs fs))
 
 -- ---- what a file sees of the run
 

@@ -157,6 +157,12 @@ pub record LeftOut : Type 0 where
       (record (functions (codes "f" ∷ codes "g" ∷ []) (gives 0 (1 ∷ []) ∷ [])) { left = left_at (Some 1) 1 (codes "weak") ∷ [] })
   pub weak_elsewhere : Says ((codes "__attribute__ ( ( weak ) ) int g ( void ) { return 1 ; }" ∷ []) ∷ (g_is_1 ∷ []) ∷ (g_is_declared ∷ codes "int c ( void ) { return g ( ) ; }" ∷ []) ∷ [])
       (record (functions (codes "g" ∷ codes "c" ∷ codes "g" ∷ []) (gives 0 [] ∷ gives 1 (2 ∷ []) ∷ [])) { left = left_at (Some 2) 1 (codes "weak") ∷ [] })
+  -- a declaration that makes a function another's is its definition
+  pub alias : Says ((codes "int h ( void ) { return 1 ; }" ∷ codes "int g ( void ) __attribute__ ( ( alias ( h ) ) ) ;" ∷ codes "int f ( void ) { return g ( ) ; }" ∷ []) ∷ [])
+      (record (functions (codes "h" ∷ codes "f" ∷ codes "g" ∷ []) (gives 0 [] ∷ gives 1 (2 ∷ []) ∷ [])) { left = left_at (Some 2) 2 (codes "weak") ∷ [] })
+  -- a name that a file makes weak is none of another file's there
+  pub weak_here : Says ((g_is_1 ∷ []) ∷ (codes "int g ( void ) __attribute__ ( ( weak ) ) ;" ∷ codes "int f ( void ) { return g ( ) ; }" ∷ []) ∷ [])
+      (record (functions (codes "g" ∷ codes "f" ∷ codes "g" ∷ []) (gives 0 [] ∷ gives 1 (2 ∷ []) ∷ [])) { several = 2 ∷ [] })
   pub duplicate : Says ((g_is_1 ∷ g_is_1 ∷ []) ∷ []) (record (functions (codes "g" ∷ []) (gives 0 [] ∷ [])) { left = left_at (Some 0) 2 (codes "duplicate") ∷ [] })
   pub parameters : Says ((codes "int f ( int a , int b , int c , int d , int e , int g , int h , int i , int j , int k , int l , int m , int n , int o , int p , int q , int r ) { return 1 ; }" ∷ []) ∷ [])
       (record (functions (codes "f" ∷ []) []) { left = left_at (Some 0) 1 (codes "parameters") ∷ [] })
@@ -171,6 +177,9 @@ pub record Statics : Type 0 where
   pub each_other : Says ((codes "static int h ( void ) ;" ∷ codes "static int k ( void ) { return h ( ) ; }" ∷ codes "static int h ( void ) { return k ( ) ; }" ∷ g_is_1 ∷ []) ∷ []) (functions (codes "g" ∷ []) (gives 0 [] ∷ []))
   pub called : Says ((codes "static int h ( void ) { return 1 ; }" ∷ codes "static int k ( void ) { return h ( ) ; }" ∷ codes "int f ( void ) { return k ( ) ; }" ∷ []) ∷ [])
       (functions (codes "h" ∷ codes "k" ∷ codes "f" ∷ []) (gives 0 [] ∷ gives 1 (0 ∷ []) ∷ gives 2 (1 ∷ []) ∷ []))
+  -- by one that is left out
+  pub called_by_a_weak_one : Says ((codes "static int h ( void ) { return 1 ; }" ∷ codes "__attribute__ ( ( weak ) ) int g ( void ) { return h ( ) ; }" ∷ []) ∷ [])
+      (record (functions (codes "h" ∷ codes "g" ∷ []) (gives 0 [] ∷ [])) { left = left_at (Some 1) 2 (codes "weak") ∷ [] })
   pub in_an_initialiser : Says ((codes "static int h ( void ) { return 1 ; }" ∷ codes "int ( * p ) ( void ) = h ;" ∷ []) ∷ []) (functions (codes "h" ∷ []) (gives 0 [] ∷ []))
   -- as a member it isn't named
   pub as_a_member : Says ((codes "struct s { int h ; } ;" ∷ codes "static int h ( void ) { return 1 ; }" ∷ codes "int f ( struct s * p ) { return p -> h ; }" ∷ []) ∷ [])

@@ -1,10 +1,10 @@
-ghost use Rattle.std.specs.Prelude.{◌≡◌, ◌||◌, ◌&&◌, not, ℕ, List, length, map, option_map, IfOk, OnOk};
+ghost use Rattle.std.specs.Prelude.{◌≡◌, ◌||◌, ℕ, List, Option, length, map, option_map, IfOk, OnOk};
 ghost use Rattle.px_expressions.specs.Terminals.{is_in};
 ghost use Rattle.px_real_scopes.specs.Views.{function_view};
 ghost use Rattle.px_real_links.specs.Files.{definition_tree, file_tree};
 ghost use Rattle.px_real_links.specs.Fates as Fates;
 ghost use Rattle.px_real_program.specs.Keeping as Rules;
-ghost use Rattle.px_real_program.specs.Steps.{is_among, asked_seen, reason_word};
+ghost use Rattle.px_real_program.specs.Steps.{is_among, is_wanted_by, names_since, asked_seen, kept_of, left_of, reason_word};
 ghost use Rattle.px_real_program.specs.Views.{file_view, defined_view, look_view};
 
 use crate::file::RealFile;
@@ -83,44 +83,70 @@ fn reason_of(links: &FileLinks, number: usize, defined: &Defined) -> Option<Reas
 
 // Whether a function is external, or somebody names it.
 fn is_wanted(named: &NamedWords, definition: &Definition) -> bool
-    ensures { result ≡ (not ((definition_tree definition.now).is_static && (definition_tree definition.now).is_read) || is_among named.now (definition_tree definition.now).name) }
+    ensures { (names : List (List ℕ)) → ((name : List ℕ) → is_among named.now name ≡ is_in names name) → result ≡ is_wanted_by names (definition_tree definition.now) }
 {
     let passes_over = definition.is_static && definition.is_read;
     !passes_over || named.contains(definition.name.as_slice())
 }
 
-// The functions of a file that are kept, and the names in them and outside of functions.
-fn keep<'a>(
+// Of the functions of a file, whether each is.
+fn wanted_flags(
+    alloc: Global,
+    named: &NamedWords,
+    links: &FileLinks,
+) -> Result<Vec<bool>, NoMemory>
+    ensures flags { (names : List (List ℕ)) → ((name : List ℕ) → is_among named.now name ≡ is_in names name) → IfOk result (λ v. v.items ≡ map (is_wanted_by names) (file_tree links.now).definitions) }
+    ensures as_many { IfOk result (λ v. length v.items ≡ length links.now.definitions.items) }
+{
+    let mut wanted = Vec::with_capacity(alloc, links.definitions.len())?;
+    for definition in &links.definitions {
+        wanted.push(is_wanted(named, definition))?;
+    }
+    Ok(wanted)
+}
+
+// The names in the functions that are wanted now, and weren't before.
+fn add_wanted<'a>(
+    alloc: Global,
+    look: &Look<'a>,
+    before: &[bool],
+    now: &[bool],
+    named: &mut NamedWords<'a>,
+) -> Result<(), NoMemory>
+    requires before { length before.now ≡ length look.now.defined.items }
+    requires now { length now.now ≡ length look.now.defined.items }
+    ensures { (name : List ℕ) → OnOk result (is_among named.new name ≡ (is_among named.old name || is_in (names_since before.now now.now (map defined_view look.now.defined.items)) name)) }
+{
+    for at in 0..now.len() {
+        if now[at] && !before[at] {
+            named.add(alloc, look.defined[at].tokens)?;
+        }
+    }
+    Ok(())
+}
+
+// Of the functions of a file, whether each is wanted; and the names in these are taken in. As long as there are more of them, others may be named.
+fn wanted_in<'a>(
     alloc: Global,
     look: &Look<'a>,
     links: &FileLinks,
-    reasons: &[Option<Reason>],
     named: &mut NamedWords<'a>,
 ) -> Result<Vec<bool>, NoMemory>
-    requires links { length links.now.definitions.items ≡ length look.now.defined.items }
-    requires reasons { length reasons.now ≡ length look.now.defined.items }
-    ensures kept { (outer : List (List ℕ)) → ((name : List ℕ) → is_among named.old name ≡ is_in outer name) → IfOk result (λ v. v.items ≡ (let qs = asked_seen look.now links.now reasons.now in Rules.kept_flags (Rules.named_within (length qs) outer qs) qs)) }
-    ensures named { (outer : List (List ℕ)) → ((name : List ℕ) → is_among named.old name ≡ is_in outer name) → OnOk result ((name : List ℕ) → is_among named.new name ≡ is_in (let qs = asked_seen look.now links.now reasons.now in Rules.named_within (length qs) outer qs) name) }
+    requires { length links.now.definitions.items ≡ length look.now.defined.items }
+    ensures flags { (outer : List (List ℕ)) (ws : List (Option (List ℕ))) → length ws ≡ length look.now.defined.items → ((name : List ℕ) → is_among named.old name ≡ is_in outer name) → IfOk result (λ v. v.items ≡ (let qs = asked_seen look.now links.now ws in map (Rules.is_wanted (Rules.named_within (length qs) outer qs)) qs)) }
+    ensures as_many { IfOk result (λ v. length v.items ≡ length links.now.definitions.items) }
 {
-    let mut kept = Vec::new(alloc);
-    kept.resize(reasons.len(), false)?;
-    for _ in 0..reasons.len() {
-        let mut more = false;
-        let mut at = reasons.len();
-        while at > 0 {
-            at -= 1;
-            let asked = !kept[at] && reasons[at].is_none();
-            if asked && is_wanted(named, &links.definitions[at]) {
-                kept[at] = true;
-                more = true;
-                named.add(alloc, look.defined[at].tokens)?;
-            }
+    let mut wanted = Vec::new(alloc);
+    wanted.resize(links.definitions.len(), false)?;
+    for round in 0..links.definitions.len() {
+        let now = wanted_flags(alloc, named, links)?;
+        if now.as_slice() == wanted.as_slice() {
+            return Ok(now);
         }
-        if !more {
-            break;
-        }
+        add_wanted(alloc, look, &wanted, &now, named)?;
+        wanted = now;
     }
-    Ok(kept)
+    wanted_flags(alloc, named, links)
 }
 
 /// Which functions of a file are kept, and why others are left out.
@@ -142,12 +168,25 @@ pub fn kept_of<'a>(
         words: IndexMap::new(alloc),
     };
     named.add_outer(alloc, file)?;
-    let kept = keep(alloc, look, links, &reasons, &mut named)?;
-    let mut left = Vec::new(alloc);
-    for number in 0..reasons.len() {
-        if is_wanted(&named, &links.definitions[number]) {
-            left.push(reasons[number])?;
+    let wanted = wanted_in(alloc, look, links, &mut named)?;
+    kept_by(alloc, &wanted, &reasons)
+}
+
+// Those that are wanted are kept, or left out with a line.
+fn kept_by(alloc: Global, wanted: &[bool], reasons: &[Option<Reason>]) -> Result<Kept, NoMemory>
+    requires { length reasons.now ≡ length wanted.now }
+    ensures kept { IfOk result (λ k. k.kept.items ≡ kept_of wanted.now (map (option_map reason_word) reasons.now)) }
+    ensures left { IfOk result (λ k. map (option_map reason_word) k.left.items ≡ left_of wanted.now (map (option_map reason_word) reasons.now)) }
+{
+    let mut kept = Vec::with_capacity(alloc, wanted.len())?;
+    let mut left = Vec::with_capacity(alloc, wanted.len())?;
+    for number in 0..wanted.len() {
+        let reason = reasons[number];
+        if wanted[number] {
+            kept.push(reason.is_none())?;
+            left.push(reason)?;
         } else {
+            kept.push(false)?;
             left.push(None)?;
         }
     }

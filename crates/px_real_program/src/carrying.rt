@@ -5,16 +5,16 @@ ghost use Rattle.px_real_bodies.specs.Environments.{library_of};
 ghost use Rattle.px_real_program.specs.Structs.{in_file, in_run};
 ghost use Rattle.px_real_program.specs.Numbers.{KnownFile as KnownTree, NumbersTree};
 ghost use Rattle.px_real_program.specs.Numbers as Rules;
-ghost use Rattle.px_real_program.specs.Steps.{AreKnown, IsWhole, AreNumbers, IsPlaces, AreExternals, run_seen, carried_view, called_view};
-ghost use Rattle.px_real_links.specs.Files.{file_tree};
+ghost use Rattle.px_real_program.specs.Steps.{AreKnown, IsWhole, AreNumbers, IsPlaces, AreExternals, are_among, run_seen, carried_view, called_view};
+ghost use Rattle.px_real_links.specs.Files.{file_tree, is_named};
 
 use crate::fields::{in_file, in_run};
 use crate::known::{KnownFile, KnownRun};
 use crate::numbers::Numbers;
-use indexmap::IndexMap;
+use indexmap::{IndexMap, IndexSet};
 use px_base::ProcId;
 use px_real_functions::Run;
-use px_real_links::{Callee, callee_of};
+use px_real_links::{Callee, FileLinks, callee_of};
 use px_real_scopes::Function;
 use px_real_types::ProfileType;
 use px_real_values::Signature;
@@ -219,6 +219,27 @@ pub fn externals<'b>(alloc: Global, run: &'b KnownRun<'_>) -> Result<Vec<Externa
     Ok(all)
 }
 
+// The names that a file makes weak, or another's.
+fn weak_names<'b>(alloc: Global, links: &'b FileLinks) -> Result<IndexSet<&'b [u8]>, NoMemory>
+    ensures { (name : List ℕ) → IfOk result (λ s. are_among (map (λ w. w.now) s.keys) name ≡ is_named links.entry.now.weak.items name) }
+{
+    let mut names = IndexSet::new(alloc);
+    for name in &links.weak {
+        names.insert(name.as_slice())?;
+    }
+    Ok(names)
+}
+
+// What a call of a name goes to, unless its file makes the name weak, or another's.
+fn unless_weak(weak: &IndexSet<&[u8]>, name: &[u8], callee: Callee) -> Callee
+    ensures { (names : List (List ℕ)) → are_among (map (λ w. w.now) weak.now.keys) name.now ≡ is_named names name.now → result ≡ Rules.unless_weak names name.now callee }
+{
+    match callee {
+        Callee::Function { .. } if weak.contains(name) => Callee::LeftOut,
+        _ => callee,
+    }
+}
+
 /// What the file with this number sees of the run, by these numbers.
 pub fn file_run<'a, 'b>(
     alloc: Global,
@@ -240,13 +261,12 @@ pub fn file_run<'a, 'b>(
             names.insert(name, called_by(alloc, run, numbers, file, name, callee)?)?;
         }
     }
+    let weak = weak_names(alloc, &run.links[file])?;
     for external in externals {
         let name = external.name;
         if names.get(name).is_none() {
-            names.insert(
-                name,
-                called_by(alloc, run, numbers, file, name, external.callee)?,
-            )?;
+            let callee = unless_weak(&weak, name, external.callee);
+            names.insert(name, called_by(alloc, run, numbers, file, name, callee)?)?;
         }
     }
     Ok(FileRun {

@@ -1,4 +1,4 @@
-ghost use Rattle.std.specs.Prelude.{◌≡◌, ◌<◌, ◌&&◌, List, [], length, map, flat_map, slice_get, option_map, nat_eq, Some, None, false, IfOk};
+ghost use Rattle.std.specs.Prelude.{◌≡◌, ◌<◌, ◌&&◌, List, [], length, map, flat_map, slice_get, option_map, Some, None, false, IfOk};
 ghost use Rattle.std.specs.Str.{bytes_eq};
 ghost use Rattle.px_expressions.specs.Reading.{or_else};
 ghost use Rattle.px_real_types.specs.Scopes.{texts};
@@ -33,18 +33,11 @@ pub struct At {
     pub number: u32,
 }
 
-// Whether it is the same place.
-fn same_at(a: At, b: At) -> bool
-    ensures { result ≡ (nat_eq a.file b.file && nat_eq a.number b.number) }
-{
-    a.file == b.file && a.number == b.number
-}
-
-// By their numbers in the run: the first definition of each struct, and how many it has.
+// By their numbers in the run: the first definition of each struct, and whether it has more.
 #[derive(Drop)]
 pub struct Definitions {
     pub first: Vec<Option<At>>,
-    pub count: Vec<u32>,
+    pub shared: Vec<bool>,
 }
 
 // What stands between the braces of each struct of a file, by its number there.
@@ -78,10 +71,10 @@ fn all_definitions<'a>(
     let count = struct_count(structs);
     let mut all = Definitions {
         first: Vec::new(alloc),
-        count: Vec::new(alloc),
+        shared: Vec::new(alloc),
     };
     all.first.resize(count, None)?;
-    all.count.resize(count, 0)?;
+    all.shared.resize(count, false)?;
     for file in 0..looks.len() {
         for at in 0..structs[file].len() {
             let number = as_number(at)?;
@@ -89,8 +82,9 @@ fn all_definitions<'a>(
                 let run = structs[file][at] as usize;
                 if all.first[run].is_none() {
                     all.first[run] = Some(At { file, number });
+                } else {
+                    all.shared[run] = true;
                 }
-                all.count[run] = all.count[run].saturating_add(1);
             }
         }
     }
@@ -102,10 +96,12 @@ fn shown_in<'a>(alloc: Global, look: &Look<'a>) -> Result<Shown<'a>, NoMemory>
     ensures { IfOk result (λ s. AreShown (look_view look.now) s) }
 {
     let mut braces = Vec::new(alloc);
-    braces.resize(look.after.record_count(), None)?;
     for found in &look.braces {
         let at = found.number as usize;
-        if at < braces.len() && braces[at].is_none() {
+        if at >= braces.len() {
+            braces.resize(at + 1, None)?;
+        }
+        if braces[at].is_none() {
             braces[at] = Some(found.held);
         }
     }
@@ -205,15 +201,21 @@ impl<'a, 'b> Files<'a, 'b> {
         requires { AreFiles self.now }
         ensures { IsOf self.now a (λ s. IsOf self.now b (λ r. result ≡ (Rules.same_fields s.fields r.fields && Rules.same_braces s.braces r.braces))) }
     {
+        self.have_same_fields(a, b) && same_braces(self.braces(a), self.braces(b))
+    }
+
+    // Whether they have the same members.
+    fn have_same_fields(&self, a: At, b: At) -> bool
+        requires { AreFiles self.now }
+        ensures { IsOf self.now a (λ s. IsOf self.now b (λ r. result ≡ Rules.same_fields s.fields r.fields)) }
+    {
         match (self.members(a), self.members(b)) {
-            (Some(members), Some(others)) => {
-                same_fields(
-                    self.structs_of(a.file),
-                    members,
-                    self.structs_of(b.file),
-                    others,
-                ) && same_braces(self.braces(a), self.braces(b))
-            }
+            (Some(members), Some(others)) => same_fields(
+                self.structs_of(a.file),
+                members,
+                self.structs_of(b.file),
+                others,
+            ),
             _ => true,
         }
     }
@@ -224,7 +226,7 @@ impl<'a, 'b> Files<'a, 'b> {
         ensures { IsOf self.now at (λ s. result ≡ Rules.is_other (all_structs_seen self.now) s) }
     {
         match self.first(at) {
-            Some(first) => !same_at(first, at) && !self.are_same(first, at),
+            Some(first) => self.members(at).is_some() && !self.are_same(first, at),
             None => false,
         }
     }
@@ -249,10 +251,7 @@ impl<'a, 'b> Files<'a, 'b> {
         ensures { IsOf self.now at (λ s. result ≡ Rules.is_shared (all_structs_seen self.now) s.number) }
     {
         match self.run(at) {
-            Some(run) => match self.definitions.count.get(run as usize) {
-                Some(count) => *count > 1,
-                None => false,
-            },
+            Some(run) => flag_at(&self.definitions.shared, run),
             None => false,
         }
     }
@@ -317,10 +316,10 @@ impl<'a, 'b> Files<'a, 'b> {
         ensures { (l : LookTree) (ss : List StructTree) → look_seen self.now file ≡ Some l → slice_get (structs_seen self.now) file ≡ Some ss → IfOk result (λ v. v.items ≡ Rules.spread_over (all_structs_seen self.now) l (length ss) ss) }
     {
         let mut flags = self.others(alloc, file)?;
-        for _ in 0..flags.len() {
+        for round in 0..flags.len() {
             let next = self.spread(alloc, file, &flags)?;
             if next.as_slice() == flags.as_slice() {
-                break;
+                return Ok(flags);
             }
             flags = next;
         }

@@ -48,7 +48,8 @@ impl<'a> KnownRun<'a> {
     pub fn file(&self, file: usize) -> KnownFile<'_, 'a>
         requires whole { IsWhole self.now }
         requires within { file < length self.now.files.now }
-        ensures { (fs : List KnownTree) → AreKnown fs self.now → IfSome (slice_get fs file) (λ f. IsKnown f result) }
+        ensures known { (fs : List KnownTree) → AreKnown fs self.now → IfSome (slice_get fs file) (λ f. IsKnown f result) }
+        ensures places { IsPlaces result.structs.now result.places.now }
     {
         KnownFile {
             file: &self.files[file],

@@ -1,4 +1,5 @@
 ghost use Rattle.std.specs.Prelude.{◌≡◌, ◌++◌, ◌∷◌, [], List, map, flat_map, take, drop, option_map, IfOk, OnOk};
+ghost use Rattle.px_expressions.specs.Terminals.{is_in};
 ghost use Rattle.px_real_expressions.specs.Lexemes.{Lexeme};
 ghost use Rattle.px_real_blocks.specs.Trees.{statement_tree};
 ghost use Rattle.px_real_declarations.specs.Names as Names;
@@ -15,9 +16,12 @@ ghost use Rattle.px_real_program.specs.Views.{file_view, listed, stepped_view, b
 
 use crate::file::RealFile;
 use px_base::{ProcId, Site};
+use px_expressions::text;
 use px_real_blocks::Statement;
 use px_real_declaring::{Declaration, Declarator, Specifier};
-use px_real_functions::{Made, Run, define, heading_of, shaped_name};
+use px_real_functions::{
+    Made, Run, copied_function, define, function_meant, heading_of, shaped_name,
+};
 use px_real_items::{External, FileItem};
 use px_real_locals::addressed_names;
 use px_real_members::Head;
@@ -25,14 +29,14 @@ use px_real_names::enumerated::within;
 use px_real_names::slices::{skip, some_first};
 use px_real_scopes::{Function, Scopes, Tag, is_memory};
 use px_real_symbols::Span;
-use px_real_types::{Base, ProfileType, Scope, Shape, Texts, declared_name};
+use px_real_types::{Base, ProfileType, Scope, Shape, Texts, add_weak_names, declared_name};
 use px_real_values::Signature;
 use px_syntax::Name;
 use px_terms::NoMemory;
 use std::alloc::Global;
 
 /// What is defined as a function, or has the shape of one: its name if it has one, its place and its tokens; unless it is left out as a form, the
-/// function and what it does.
+/// function and what it does, if it has a body.
 #[derive(Drop)]
 pub struct Defined<'a> {
     pub name: Option<Name>,
@@ -191,6 +195,69 @@ fn declare(
     }
 }
 
+// Whether a word makes a function another's.
+fn is_alias_word(word: &[u8]) -> bool
+    ensures { result ≡ is_in Rules.alias_words word.now }
+{
+    word == b"alias".as_slice()
+        || word == b"__alias__".as_slice()
+        || word == b"ifunc".as_slice()
+        || word == b"__ifunc__".as_slice()
+}
+
+// Whether one stands among these tokens.
+fn says_alias(own: Texts) -> bool
+    ensures { result ≡ Rules.says_alias (texts own.entry) }
+{
+    for token in own.tokens {
+        if is_alias_word(text(own.source, token.start, token.end)) {
+            return true;
+        }
+    }
+    false
+}
+
+// The function that a name means, with the tokens of its declaration.
+fn a_declared<'a>(
+    alloc: Global,
+    scopes: &Scopes,
+    own: Texts<'a>,
+    name: &[u8],
+) -> Result<Option<Defined<'a>>, NoMemory>
+    ensures { IfOk result (λ o. listed (option_map defined_view o) ≡ Rules.a_declared scopes.now (texts own.entry) name.now) }
+{
+    match function_meant(scopes.meaning(name)) {
+        Some(function) => Ok(Some(Defined {
+            name: Some(Name::from_slice(alloc, name)?),
+            site: first_place(own),
+            tokens: own,
+            function: Some(copied_function(alloc, function)?),
+            made: None,
+        })),
+        None => Ok(None),
+    }
+}
+
+// The function that a declaration makes another's, where it is in scope.
+fn made_alias<'a>(
+    alloc: Global,
+    scopes: &Scopes,
+    own: Texts<'a>,
+    declaration: &Declaration,
+) -> Result<Option<Defined<'a>>, NoMemory>
+    ensures { IfOk result (λ o. listed (option_map defined_view o) ≡ Rules.made_alias scopes.now (texts own.entry) (declaration_tree (all_but_last (texts own.entry)) declaration.now)) }
+{
+    if !says_alias(own) {
+        return Ok(None);
+    }
+    let mut names = Vec::new(alloc);
+    add_weak_names(alloc, &mut names, all_but_last(own), declaration)?;
+    match names.first() {
+        Some(name) => a_declared(alloc, scopes, own, name.as_slice()),
+        None => Ok(None),
+    }
+}
+
 // Behind a declaration.
 fn behind_declaration<'a>(
     alloc: Global,
@@ -201,8 +268,9 @@ fn behind_declaration<'a>(
     ensures { (run : SpecRun) → IfOk result (λ s. stepped_view s ≡ Rules.read run (texts own.entry) (declares (declaration_tree (all_but_last (texts own.entry)) declaration.now)) scopes) }
 {
     declare(alloc, &mut scopes, all_but_last(own), declaration)?;
+    let defined = made_alias(alloc, &scopes, own, declaration)?;
     Ok(Stepped {
-        defined: None,
+        defined,
         after: scopes,
     })
 }

@@ -22,7 +22,9 @@ impl<'a> Ids<'a> {
         let mut ids = IndexMap::new(alloc);
         let mut next = first;
         for name in names.as_slice() {
-            ids.insert(*name, next)?;
+            if ids.get(*name).is_none() {
+                ids.insert(*name, next)?;
+            }
             let Some(after) = next.checked_add(1) else {
                 return Err(NoMemory);
             };

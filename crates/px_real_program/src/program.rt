@@ -22,7 +22,7 @@ use crate::looking::{Defined, tokens_of};
 use crate::numbers::{Ids, Numbers, TypeIds};
 use crate::procedures::procedures;
 use crate::seen::SeenStructs;
-use crate::sights::Sights;
+use crate::sights::{Sights, see_procedure};
 use crate::types::{NamedTypes, all_types, blocks_of, named_types};
 use indexmap::IndexSet;
 use px_base::ProcId;
@@ -33,8 +33,8 @@ use px_terms::{Items, NoMemory};
 use px_typing::ProgramFault;
 use std::alloc::Global;
 
-/// The program that files say, and the numbers of the names that calls go to and that several files define: these are left out, and no left-out item
-/// has one.
+/// The program that files say, and the numbers of the names that calls go to and that several files define, or that the calling file makes weak: these
+/// are left out, and no left-out item has one.
 #[derive(Drop)]
 pub struct RealProgram {
     pub program: Program,
@@ -47,7 +47,7 @@ const OWN_WORDS: &[u8] =
 
 // These words.
 fn own_texts<'a>(alloc: Global) -> Result<IndexSet<&'a [u8]>, NoMemory>
-    ensures { IfOk result (λ s. map (λ w. w.now) s.keys ≡ Rules.own_words) }
+    ensures { IfOk result (λ s. map (λ w. w.now) s.keys ≡ first_sights bytes_eq Rules.own_words) }
 {
     let mut texts = IndexSet::new(alloc);
     let mut start = 0;
@@ -160,7 +160,7 @@ fn sights_of(alloc: Global, run: &KnownRun, texts: &IndexSet<&[u8]>) -> Result<S
     };
     let all = procedures(alloc, run, &numbers)?;
     for procedure in &all {
-        sights.see_procedure(procedure)?;
+        see_procedure(procedure, &mut sights)?;
     }
     Ok(sights)
 }

@@ -1,4 +1,4 @@
-ghost use Rattle.std.specs.Prelude.{◌≡◌, ◌+◌, ◌*◌, ◌∷◌, ◌++◌, List, map, flat_map, IfOk, OnOk};
+ghost use Rattle.std.specs.Prelude.{◌≡◌, ◌+◌, ◌*◌, ◌∷◌, ◌++◌, List, drop, map, flat_map, IfOk, OnOk};
 ghost use Rattle.std.specs.List.{AllByRecursion};
 ghost use Rattle.px_real_types.specs.declared.shape.Base.TheVariants as B;
 ghost use Rattle.px_real_types.specs.declared.shape.ProfileType.{ProfileType as SpecType};
@@ -74,6 +74,23 @@ impl NamedTypes {
         Ok(())
     }
 
+    // What the cells of all structs from this number on point to.
+    fn see_all_cells(
+        &mut self,
+        alloc: Global,
+        run: &KnownRun,
+        seen: &SeenStructs,
+        from: usize,
+    ) -> Result<(), NoMemory>
+        ensures { (fs : List KnownTree) → AreKnown fs run.now → AreSeenStructs fs seen.now → (ts : List SpecType) → AreTypes ts self.old → OnOk result (SeesTypes self.old self.new (flat_map (Rules.behind_block fs) (drop from ts))) }
+    {
+        for at in from..self.codes.len() {
+            let code = self.codes.as_slice()[at];
+            self.see_cells(alloc, run, seen, type_of(code))?;
+        }
+        Ok(())
+    }
+
     /// The numbers of all.
     pub fn ids(&self, alloc: Global) -> Result<TypeIds, NoMemory>
         ensures { (ts : List SpecType) → AreTypes ts self.now → IfOk result (AreTypesNumbered ts) }
@@ -81,7 +98,9 @@ impl NamedTypes {
         let mut ids = IndexMap::new(alloc);
         let mut next: u32 = 0;
         for code in self.codes.as_slice() {
-            ids.insert(*code, next)?;
+            if ids.get(code).is_none() {
+                ids.insert(*code, next)?;
+            }
             let Some(after) = next.checked_add(1) else {
                 return Err(NoMemory);
             };
@@ -138,13 +157,15 @@ pub fn named_types(
     for code in codes.as_slice() {
         types.see(type_of(*code))?;
     }
-    // Those that come behind a struct are looked at in their turn, as long as there are more: no more than there may be.
-    for at in 0..most_types(run)? as usize {
-        if at >= types.codes.len() {
-            break;
+    // What came last is looked at, as long as there is more; each time but the last a struct comes.
+    let mut from = 0;
+    for round in 0..run.count {
+        let upto = types.codes.len();
+        if from == upto {
+            return Ok(types);
         }
-        let code = types.codes.as_slice()[at];
-        types.see_cells(alloc, run, seen, type_of(code))?;
+        types.see_all_cells(alloc, run, seen, from)?;
+        from = upto;
     }
     Ok(types)
 }

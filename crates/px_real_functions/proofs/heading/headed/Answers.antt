@@ -25,4 +25,4 @@ returns c = λ all.
     let said : c.all_declare_parameters.result ≡ Rules.all_declare_parameters (Rules.old_names ps) ds = c.all_declare_parameters.ensures all
     ∙ ap₂ (λ ws z. Rules.all_declare_parameters ws (map (declaration_tree all) z)) (c.old_names.ensures (held_in all c.args.held)) c.deref.ensures.value in
     let yes : Rules.all_declare_parameters (Rules.old_names ps) ds ≡ true = (let e = c.if-not-all_declare_parameters.false in cc) in
-    ap (λ f. Some (record { function = f; parameters = ps })) c.in_ok-copied.ensures ∙ sym (ap (λ b. if b then Some x else None) yes)
+    ap (λ f. Some (record { function = f; parameters = ps })) c.in_ok-copied_function.ensures ∙ sym (ap (λ b. if b then Some x else None) yes)
