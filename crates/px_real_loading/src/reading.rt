@@ -72,8 +72,8 @@ pub fn real_file(
     // The fault is the first of the file.
     ensures fault { (fault : AFault) → IsErrOf result (Refused fault) → HasRealFault number source.items fault }
 {
-    let tokens = tokens(alloc, number, &source)?;
-    let items = match read_items(alloc, &source, &tokens) {
+    let tokens = tokens_of(alloc, number, &source)?;
+    let items = match items_of(alloc, &source, &tokens) {
         Ok(items) => items,
         Err(ItemFault::Unbalanced(site)) => {
             return Err(RealReadFault::Refused(RealFault::Unbalanced(site)));
@@ -89,7 +89,7 @@ pub fn real_file(
 }
 
 // The tokens.
-fn tokens(alloc: Global, number: u32, source: &[u8]) -> Result<Vec<Token>, RealReadFault>
+fn tokens_of(alloc: Global, number: u32, source: &[u8]) -> Result<Vec<Token>, RealReadFault>
     requires { length source.now < 2 ^ 32 }
     ensures tokens { IfOk result (λ v. Lexes number source.now (Ok v.items)) }
     ensures fault { (fault : AFault) → IsErrOf result (Refused fault) → HasRealFault number source.now fault }
@@ -106,7 +106,7 @@ fn tokens(alloc: Global, number: u32, source: &[u8]) -> Result<Vec<Token>, RealR
 }
 
 // The items of these tokens. No source that memory holds has 2^32 tokens.
-fn read_items(alloc: Global, source: &[u8], tokens: &[Token]) -> Result<Vec<FileItem>, ItemFault>
+fn items_of(alloc: Global, source: &[u8], tokens: &[Token]) -> Result<Vec<FileItem>, ItemFault>
     ensures read { IfOk result (λ xs. (after : SpecNames) × IsFile source.now tokens.now (map (item_tree (lexemes no_types source.now tokens.now)) xs.items) after) }
     ensures unbalanced { (place : SpecSite) → IsErrOf result (Unbalanced place) → IsCut (map (as_mark source.now) tokens.now) (Err place) }
 {

@@ -2,6 +2,7 @@ use Rattle.std.proofs.Common.{◌≤◌, ◌∙◌, length, ap, sym, subst}
 use Rattle.std.specs.List.{AllByRecursion}
 use Rattle.px_base.specs.Texts.{texts}
 use Rattle.px_syntax.specs.ProgramTree.{program_tree}
+use Rattle.px_loading.specs.declared.language.Language.TheVariants.{Profile, Real}
 use Rattle.px_loading.specs.Inputs.{most_bytes}
 use Rattle.px_loading.specs.Stops.{all_read}
 use Rattle.px_loading.specs.Refusals.{SaysAlone}
@@ -17,12 +18,32 @@ program_of-requires-clause-short g c =
     subst (λ ss. AllByRecursion (λ s. length s.items ≤ most_bytes) ss) (sym c.deref.ensures.value)
     (sources_short (g.F.Files.told c.args.files.now) (texts c.args.names.now) c.in_ok-sources.sources.items c.in_ok-sources.ensures.contents.0.1)
 
-pub returns-clause-program : goal.returns-clause-program
-returns-clause-program g c =
-    if_ok c.program_of.result c.program_of.ensures.program
-    (λ P h. (all_read c.in_ok-sources.sources.items, c.in_ok-sources.ensures.contents.0, subst (λ ss. SaysAlone (texts c.args.names.now) (all_read ss) (program_tree P)) c.deref.ensures.value h))
+pub real_program_of-requires-clause-short : goal.real_program_of-requires-clause-short
+real_program_of-requires-clause-short g c =
+    sources_short (g.F.Files.told c.args.files.now) (texts c.args.names.now) c.in_ok-sources.sources.items c.in_ok-sources.ensures.contents.0.1
 
-pub returns-clause-none : goal.returns-clause-none
-returns-clause-none g c =
+pub returns-in-Profile-clause-program : goal.returns-in-Profile-clause-program
+returns-in-Profile-clause-program g c =
+    if_ok c.program_of.result c.program_of.ensures.program
+    (λ P h. (all_read c.in_ok-sources.sources.items, c.in_ok-sources.ensures.contents.0,
+        subst (λ l. SaysAlone l (texts c.args.names.now) (all_read c.in_ok-sources.sources.items) (program_tree P)) (sym c.in-Profile.is)
+        (subst (λ ss. SaysAlone Profile (texts c.args.names.now) (all_read ss) (program_tree P)) c.deref.ensures.value h)))
+
+pub returns-in-Profile-clause-none : goal.returns-in-Profile-clause-none
+returns-in-Profile-clause-none g c =
     if_err c.program_of.result c.program_of.ensures.none
-    (λ fault h. (all_read c.in_ok-sources.sources.items, c.in_ok-sources.ensures.contents.0, subst (λ ss. IsFaultOf (texts c.args.names.now) (all_read ss) fault) c.deref.ensures.value h))
+    (λ fault h. (all_read c.in_ok-sources.sources.items, c.in_ok-sources.ensures.contents.0,
+        subst (λ l. IsFaultOf l (texts c.args.names.now) (all_read c.in_ok-sources.sources.items) fault) (sym c.in-Profile.is)
+        (subst (λ ss. IsFaultOf Profile (texts c.args.names.now) (all_read ss) fault) c.deref.ensures.value h)))
+
+pub returns-in-Real-clause-program : goal.returns-in-Real-clause-program
+returns-in-Real-clause-program g c =
+    if_ok c.real_program_of.result c.real_program_of.ensures.program
+    (λ P h. (all_read c.in_ok-sources.sources.items, c.in_ok-sources.ensures.contents.0,
+        subst (λ l. SaysAlone l (texts c.args.names.now) (all_read c.in_ok-sources.sources.items) (program_tree P)) (sym c.in-Real.is) h))
+
+pub returns-in-Real-clause-none : goal.returns-in-Real-clause-none
+returns-in-Real-clause-none g c =
+    if_err c.real_program_of.result c.real_program_of.ensures.none
+    (λ fault h. (all_read c.in_ok-sources.sources.items, c.in_ok-sources.ensures.contents.0,
+        subst (λ l. IsFaultOf l (texts c.args.names.now) (all_read c.in_ok-sources.sources.items) fault) (sym c.in-Real.is) h))
