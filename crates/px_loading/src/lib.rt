@@ -17,5 +17,5 @@ mod texts;
 pub use fault::{Fault, LoadFault};
 pub use language::{Language, language};
 pub use laws::left_in_order;
-pub use loading::load;
+pub use loading::{load, load_profile};
 pub use telling::tell_fault;

@@ -34,11 +34,44 @@ pub fn load<'a, F: Files>(
     ensures same { (p : List ℕ) → F.told files.new p ≡ F.told files.old p }
     ensures allowed { (p : List ℕ) → F.allows files.old p → F.allows files.new p }
 {
-    let sources = read_all(alloc, names, files)?;
     match language {
-        Language::Profile => program_of(alloc, names, &sources),
-        Language::Real => real_program_of(alloc, names, sources),
+        Language::Profile => load_profile(alloc, names, files),
+        Language::Real => load_real(alloc, names, files),
     }
+}
+
+/// The same of files that are read as C of the profile.
+pub fn load_profile<'a, F: Files>(
+    alloc: Global,
+    names: &'a [String],
+    files: &mut F,
+) -> Result<Program, LoadFault<'a>>
+    requires allowed { AllByRecursion (λ name. F.allows files.old name) (texts names.now) }
+    requires few { length names.now ≤ most_files }
+    ensures program { IfOk result (λ P. (given : List Given) × GivesAll F.told F.count F.gives files.old files.new (texts names.now) given × SaysAlone Languages.Profile (texts names.now) given (program_tree P)) }
+    ensures none { IfErr result (λ fault. (given : List Given) × GivesAll F.told F.count F.gives files.old files.new (texts names.now) given × IsFaultOf Languages.Profile (texts names.now) given fault) }
+    ensures same { (p : List ℕ) → F.told files.new p ≡ F.told files.old p }
+    ensures allowed { (p : List ℕ) → F.allows files.old p → F.allows files.new p }
+{
+    let sources = read_all(alloc, names, files)?;
+    program_of(alloc, names, &sources)
+}
+
+// The same of preprocessed files.
+fn load_real<'a, F: Files>(
+    alloc: Global,
+    names: &'a [String],
+    files: &mut F,
+) -> Result<Program, LoadFault<'a>>
+    requires allowed { AllByRecursion (λ name. F.allows files.old name) (texts names.now) }
+    requires few { length names.now ≤ most_files }
+    ensures program { IfOk result (λ P. (given : List Given) × GivesAll F.told F.count F.gives files.old files.new (texts names.now) given × SaysAlone Languages.Real (texts names.now) given (program_tree P)) }
+    ensures none { IfErr result (λ fault. (given : List Given) × GivesAll F.told F.count F.gives files.old files.new (texts names.now) given × IsFaultOf Languages.Real (texts names.now) given fault) }
+    ensures same { (p : List ℕ) → F.told files.new p ≡ F.told files.old p }
+    ensures allowed { (p : List ℕ) → F.allows files.old p → F.allows files.new p }
+{
+    let sources = read_all(alloc, names, files)?;
+    real_program_of(alloc, names, sources)
 }
 
 // The program of files of the profile that were read.
