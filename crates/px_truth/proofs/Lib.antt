@@ -13,5 +13,5 @@ pub mod ToldItems
 pub mod CoveredCalls
 pub mod TrueEntries
 mod NamedCalls
-mod SaidPrograms
+pub mod SaidPrograms
 pub mod AnalysableFiles
