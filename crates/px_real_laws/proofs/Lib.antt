@@ -1,0 +1,4 @@
+pub mod LeftInOrder
+pub mod LooksAlike
+pub mod KeptFunctions
+pub mod ProcedureNumbers
