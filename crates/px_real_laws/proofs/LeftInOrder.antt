@@ -1,6 +1,6 @@
 -- What a program of real C leaves out stands in the order in which it stands in the files.
 use Rattle.std.proofs.Common.{◌≡◌, ◌∙◌, ℕ, ◌+◌, Bool, true, false, List, [], ◌∷◌, ◌++◌, map, flat_map, Option, Some, None, refl, sym, ap, subst}
-use Rattle.std.specs.Prelude.{IsTrue}
+use Rattle.std.specs.Prelude.{IsTrue, if◌then◌else◌}
 use Rattle.std.specs.List.{AllByRecursion}
 use Rattle.std.proofs.lemmas.List.{map-append}
 use Rattle.px_base.specs.declared.trace.Site.{Site}
@@ -9,15 +9,17 @@ use Rattle.px_expressions.specs.Reading.{or_else}
 use Rattle.px_programs.specs.Laws.{AreInOrder}
 use Rattle.px_real_expressions.specs.Lexemes.{Lexeme}
 use Rattle.px_real_statements.specs.StatementTree.{StatementTree}
-use Rattle.px_real_declarations.specs.DeclarationTree.{HeadTree}
+use Rattle.px_real_declarations.specs.DeclarationTree.{DeclarationTree, HeadTree}
 use Rattle.px_real_declarations.specs.Names.{declared_name}
-use Rattle.px_real_scopes.specs.Scopes.{Scopes, nothing_in_scope}
+use Rattle.px_real_types.specs.Linkage.{weak_names}
+use Rattle.px_real_scopes.specs.Scopes.{FunctionTree, Scopes, nothing_in_scope}
+use Rattle.px_real_scopes.specs.Lookups.{meaning_of}
 use Rattle.px_real_scopes.specs.Behind.{behind_head}
 use Rattle.px_real_bodies.specs.Environments.{Run}
 use Rattle.px_real_items.specs.Externals.{ExternalTree, declares, defines}
-use Rattle.px_real_functions.specs.Parameters.{HeadingTree, heading}
+use Rattle.px_real_functions.specs.Parameters.{HeadingTree, function_meant, heading}
 use Rattle.px_real_program.specs.Files.{PieceTree, FileTree, first_place}
-use Rattle.px_real_program.specs.Looks.{DefinedTree, left_as_form, unread, a_function, behind_its_head, read, step, look_from, look, without_body, bare, no_run}
+use Rattle.px_real_program.specs.Looks.{DefinedTree, says_alias, first_declared, made_alias, left_as_form, unread, behind_read, a_function, behind_its_head, read, step, look_from, look, without_body, bare, no_run}
 use Rattle.px_real_program.specs.Numbers.{KnownFile, NumbersTree, second_looks, known_each, all_hidden, all_run_numbers, known_files}
 use Rattle.px_real_program.specs.Programs.{LeftTree, left_if, left_from, left_in, left_of, numbers_of, program_of}
 use Rattle.px_real_laws.specs.Laws.{said, piece_place, places_in}
@@ -77,6 +79,21 @@ left_of_known n (k ∷ ks) =
 abbrev IsAtPlace : List Lexeme → List DefinedTree → Type 0
 IsAtPlace ts ds = IsAmong (map defined_site ds) (first_place ts ∷ [])
 
+first_at : (st : Scopes) (ts : List Lexeme) (names : List (List ℕ)) → IsAtPlace ts (first_declared st ts names)
+first_at st ts [] = none_taken refl
+first_at st ts (name ∷ names) = by (function_meant (meaning_of st.bindings name))
+  where
+    by : (o : Option FunctionTree) → IsAtPlace ts (or_else o (λ f. record { name = Some name; site = first_place ts; tokens = ts; function = Some f; body = None } ∷ []) [])
+    by None = none_taken refl
+    by (Some f) = one_taken (none_taken refl) refl refl
+
+alias_at : (st : Scopes) (ts : List Lexeme) (d : DeclarationTree) → IsAtPlace ts (made_alias st ts d)
+alias_at st ts d = by (says_alias ts)
+  where
+    by : (b : Bool) → IsAtPlace ts (if b then first_declared st ts (weak_names d) else [])
+    by true = first_at st ts (weak_names d)
+    by false = none_taken refl
+
 module _ (run : Run) where
   by_heading : (ts : List Lexeme) (h : HeadTree) (ss : List StatementTree) (st : Scopes) (o : Option HeadingTree) → IsAtPlace ts (or_else o (a_function run ts h ss st) (left_as_form (declared_name h.declarator) ts st)).defined
   by_heading ts h ss st None = one_taken (none_taken refl) refl refl
@@ -89,7 +106,7 @@ module _ (run : Run) where
   by_tree : (ts : List Lexeme) (is_function : Bool) (st : Scopes) (o : Option ExternalTree) → IsAtPlace ts (or_else o (λ x. read run ts x st) (unread is_function ts st)).defined
   by_tree ts true st None = one_taken (none_taken refl) refl refl
   by_tree ts false st None = none_taken refl
-  by_tree ts is_function st (Some (declares d)) = none_taken refl
+  by_tree ts is_function st (Some (declares d)) = alias_at (behind_read st d) ts d
   by_tree ts is_function st (Some (defines h ss)) = by_head ts h ss st (behind_head st h)
 
   look_at_places : (st : Scopes) (ps : List PieceTree) → IsAmong (map defined_site (look_from run st ps).defined) (map piece_place ps)

@@ -3,7 +3,7 @@ use Rattle.std.proofs.Common.{arith, ◌≡◌, ◌∙◌, ◌≤◌, ◌+◌, �
 use Rattle.std.specs.Prelude.{option_map, option_to_list, if◌then◌else◌, ⊤}
 use Rattle.std.specs.List.{AllByRecursion, position_from}
 use Rattle.std.proofs.lemmas.Iterator.Adapters.{position_from-zero}
-use Rattle.std.proofs.lemmas.Bool.{eq-eqb, ne_eqb}
+use Rattle.std.proofs.lemmas.Bool.{and_left, and_right, eq-eqb, ne_eqb}
 use Rattle.std.proofs.lemmas.List.{map-append, length-map}
 use Rattle.std.proofs.lemmas.Option.{slice_get-map, same_Some, none-some}
 use Rattle.px_base.specs.Bounds.{most_parameters}
@@ -12,7 +12,7 @@ use Rattle.px_syntax.specs.ProgramTree.{ProcedureTree}
 use Rattle.px_terms.proofs.Recursion.{all_both}
 use Rattle.px_typing.specs.Sights.{number_in}
 use Rattle.px_programs.specs.Laws.{AreInOrder}
-use Rattle.px_programs.proofs.Lists.{all_change}
+use Rattle.px_programs.proofs.Lists.{all_change, get_begins}
 use Rattle.px_real_bodies.specs.Environments.{Run}
 use Rattle.px_real_functions.specs.Definitions.{MadeTree}
 use Rattle.px_real_program.specs.Files.{FileTree}
@@ -84,14 +84,6 @@ module _ (fs : List KnownFile) (m : NumbersTree) where
 abbrev IsApart : Place → Place → Type 0
 IsApart y x = same_place x y ≡ false
 
-and_false : (a b : Bool) → b ≡ false → (a && b) ≡ false
-and_false true b e = e
-and_false false b e = refl
-
-false_and : (a b : Bool) → a ≡ false → (a && b) ≡ false
-false_and true b e = absurd cc
-false_and false b e = refl
-
 order_both : (xs ys : List Place) → AreInOrder IsApart xs → AreInOrder IsApart ys → AllByRecursion (λ x. AllByRecursion (IsApart x) ys) xs → AreInOrder IsApart (xs ++ ys)
 order_both [] ys h k across = k
 order_both (x ∷ xs) ys h k across = (all_both (IsApart x) xs ys h.0 across.0, order_both xs ys h.1 k across.1)
@@ -108,7 +100,7 @@ from_apart : (file n : ℕ) (ks : List Bool) → AreInOrder IsApart (kept_from f
 from_apart file n [] = tt
 from_apart file n (false ∷ ks) = from_apart file (n + 1) ks
 from_apart file n (true ∷ ks) = (
-  all_change (IsFrom file (n + 1)) (IsApart (file, n)) (λ x h. and_false (nat_eq x.0 file) (nat_eq x.1 n) (ne_eqb x.1 n (λ e. let k = h.1 in let z : ⊥ = omega (arith, k, e) in z))) (kept_from file (n + 1) ks) (from_after file (n + 1) ks),
+  all_change (IsFrom file (n + 1)) (IsApart (file, n)) (λ x h. and_right (nat_eq x.0 file) (nat_eq x.1 n) (ne_eqb x.1 n (λ e. let k = h.1 in let z : ⊥ = omega (arith, k, e) in z))) (kept_from file (n + 1) ks) (from_after file (n + 1) ks),
   from_apart file (n + 1) ks,
 )
 
@@ -122,7 +114,7 @@ places_after file (g ∷ gs) =
 across : (file : ℕ) (xs ys : List Place) → AllByRecursion (IsFrom file 0) xs → AllByRecursion (λ (y : Place). file + 1 ≤ y.0) ys → AllByRecursion (λ x. AllByRecursion (IsApart x) ys) xs
 across file [] ys h k = tt
 across file (x ∷ xs) ys h k = (
-  all_change (λ (y : Place). file + 1 ≤ y.0) (IsApart x) (λ y l. false_and (nat_eq y.0 x.0) (nat_eq y.1 x.1) (ne_eqb y.0 x.0 (λ e. let i = h.0.0 in let z : ⊥ = omega (arith, l, i, e) in z))) ys k,
+  all_change (λ (y : Place). file + 1 ≤ y.0) (IsApart x) (λ y l. and_left (nat_eq y.0 x.0) (nat_eq y.1 x.1) (ne_eqb y.0 x.0 (λ e. let i = h.0.0 in let z : ⊥ = omega (arith, l, i, e) in z))) ys k,
   across file xs ys h.1 k,
 )
 
@@ -201,14 +193,10 @@ module _ (files : List FileTree) where
   unfolding program_of
   all = count_here
 
-first_names : {A : Type 0} (xs ys : List A) (n : ℕ) (a : A) → slice_get xs n ≡ Some a → slice_get (xs ++ ys) n ≡ Some a
-first_names [] ys n a e = absurd (none-some a e)
-first_names (x ∷ xs) ys zero a e = e
-first_names (x ∷ xs) ys (suc n) a e = first_names xs ys n a e
-
 pub names_first : (files : List FileTree) (n : ℕ) (name : List ℕ) → slice_get (map (kept_name (known_files files)) (kept_places 0 (known_files files))) n ≡ Some name → slice_get (said files).names n ≡ Some name
 unfolding program_of
 names_first files n name e =
     let fs = known_files files in
     let m = numbers_of files fs in
-    first_names (map (kept_name fs) (kept_places 0 fs)) (m.out ++ m.unknown) n name e
+    let names = map (kept_name fs) (kept_places 0 fs) in
+    get_begins names (names ++ (m.out ++ m.unknown)) n name (m.out ++ m.unknown, refl) e

@@ -21,22 +21,18 @@ use Rattle.px_real_loading.specs.Sources.{IsRealFileOf, HasRealFault}
 use Rattle.px_real_loading.specs.Laws.{OneRealReading}
 use Rattle.px_real_loading.proofs.OneExternal.{one_list}
 
-ok_same : {A B : Type 0} (x y : A) → Path (Result A B) (Ok x) (Ok y) → x ≡ y
-ok_same x y e = cc
-
-err_same : {A B : Type 0} (x y : B) → Path (Result A B) (Err x) (Err y) → x ≡ y
-err_same x y e = cc
-
 -- ---- files
 
 one_items : (source : List ℕ) (ts : List Token) (xs ys : List ItemTree) (a b : Names) → IsFile source ts xs a → IsFile source ts ys b → xs ≡ ys
 one_items source ts xs ys a b g h =
-    let cut : map item_of xs ≡ map item_of ys = ok_same _ _ (one_cutting (map (as_mark source) ts) (Ok (map item_of xs)) (Ok (map item_of ys)) g.cut h.cut) in
+    let same = one_cutting (map (as_mark source) ts) (Ok (map item_of xs)) (Ok (map item_of ys)) g.cut h.cut in
+    let cut : map item_of xs ≡ map item_of ys = cc in
     (one_list (lexemes no_types source ts) [] xs ys a b g.read h.read cut).0
 
 same_file : (number : ℕ) (name source : List ℕ) (f g : FileTree) → IsRealFileOf number name source f → IsRealFileOf number name source g → f ≡ g
 same_file number name source f g h k =
-    let tokens : h.tokens ≡ k.tokens = ok_same _ _ (one_reading number source (Ok h.tokens) (Ok k.tokens) h.lexed k.lexed) in
+    let same = one_reading number source (Ok h.tokens) (Ok k.tokens) h.lexed k.lexed in
+    let tokens : h.tokens ≡ k.tokens = cc in
     let items : h.items ≡ k.items = one_items source k.tokens h.items k.items h.after k.after (subst (λ ts. IsFile source ts h.items h.after) tokens h.read) k.read in
     h.is ∙ ap (λ ts. file_of name (lexemes no_types source ts) h.items) tokens ∙ ap (file_of name (lexemes no_types source k.tokens)) items ∙ sym k.is
 
@@ -46,7 +42,7 @@ no_tokens : (number : ℕ) (source : List ℕ) (ts : List Token) (e : LexFault) 
 no_tokens number source ts e h k = let z = one_reading number source (Ok ts) (Err e) h k in cc
 
 same_error : (number : ℕ) (source : List ℕ) (a b : LexFault) → Lexes number source (Err a) → Lexes number source (Err b) → a ≡ b
-same_error number source a b h k = err_same a b (one_reading number source (Err a) (Err b) h k)
+same_error number source a b h k = let same = one_reading number source (Err a) (Err b) h k in cc
 
 same_fault : (number : ℕ) (source : List ℕ) (a b : RealFault) → HasRealFault number source a → HasRealFault number source b → a ≡ b
 same_fault number source (Byte s) (Byte t) h k = ap Byte (let z = same_error number source _ _ h k in cc)
@@ -65,8 +61,10 @@ same_fault number source (Unbalanced s) (Byte t) h k = absurd (no_tokens number 
 same_fault number source (Unbalanced s) (Comment t) h k = absurd (no_tokens number source h.0 _ h.1 k)
 same_fault number source (Unbalanced s) (NotPreprocessed t) h k = absurd (no_tokens number source h.0 _ h.1 k)
 same_fault number source (Unbalanced s) (Unbalanced t) h k =
-    let tokens : h.0 ≡ k.0 = ok_same _ _ (one_reading number source (Ok h.0) (Ok k.0) h.1 k.1) in
-    ap Unbalanced (err_same s t (one_cutting (map (as_mark source) k.0) (Err s) (Err t) (subst (λ ts. IsCut (map (as_mark source) ts) (Err s)) tokens h.2) k.2))
+    let lexed = one_reading number source (Ok h.0) (Ok k.0) h.1 k.1 in
+    let tokens : h.0 ≡ k.0 = cc in
+    let same = one_cutting (map (as_mark source) k.0) (Err s) (Err t) (subst (λ ts. IsCut (map (as_mark source) ts) (Err s)) tokens h.2) k.2 in
+    ap Unbalanced (let z : s ≡ t = cc in z)
 
 -- ---- not both
 
@@ -75,7 +73,8 @@ no_fault number name source f (Byte s) h k = no_tokens number source h.tokens _ 
 no_fault number name source f (Comment s) h k = no_tokens number source h.tokens _ h.lexed k
 no_fault number name source f (NotPreprocessed s) h k = no_tokens number source h.tokens _ h.lexed k
 no_fault number name source f (Unbalanced s) h k =
-    let tokens : h.tokens ≡ k.0 = ok_same _ _ (one_reading number source (Ok h.tokens) (Ok k.0) h.lexed k.1) in
+    let lexed = one_reading number source (Ok h.tokens) (Ok k.0) h.lexed k.1 in
+    let tokens : h.tokens ≡ k.0 = cc in
     let cut : IsCut (map (as_mark source) k.0) (Ok (map item_of h.items)) = subst (λ ts. IsCut (map (as_mark source) ts) (Ok (map item_of h.items))) tokens h.read.cut in
     let z = one_cutting (map (as_mark source) k.0) (Ok (map item_of h.items)) (Err s) cut k.2 in cc
 
