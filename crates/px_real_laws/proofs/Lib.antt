@@ -2,3 +2,5 @@ pub mod LeftInOrder
 pub mod LooksAlike
 pub mod KeptFunctions
 pub mod ProcedureNumbers
+pub mod Renumbered
+pub mod RenumberedListed

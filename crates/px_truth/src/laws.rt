@@ -5,9 +5,7 @@ use px_coverage::tables_cover;
 use px_leak::{leaks_are_of_entries, leaks_are_right};
 use px_lower::lowering_keeps;
 use px_manifest::{looks_are_right, tests_decide};
-use px_programs::{
-    bodies_of_programs_keep, programs_have_their_numbers, triples_are_of_trees,
-};
+use px_programs::{bodies_of_programs_keep, programs_have_their_numbers, triples_are_of_trees};
 use px_soundness::{checked_are_valid, entries_are_valid};
 use px_symexec::one_process;
 use px_text_report::bugs_are_of_entries;

@@ -32,9 +32,13 @@ returns-in-Ok-clause-answers g c =
     let r = c.in-Ok.ensures.program in
     let (kept, last, answers) = p.ensures.answers in
     subst (λ ns. (given : List Given) × (kept : Option Given) × GivesWithKept m.told m.count m.gives a.files.now p.new.files (texts ns) path given kept
-    × AnswersWith (language_of asked.real) asked.limits (g.W.Form.written a.form.now) asked.stats asked.more kinds (texts ns) path given kept (change k.told k.count a.out.now p.new.out) (change e.told e.count a.err.now p.new.err) (p.new.err ≡ a.err.now) p.result) c.deref.ensures.value
-    (r.0, kept, record { mid = c.load.new.files; files = r.1; same = c.in-Ok.ensures.same path; last = last }, subst (λ l. AnswersWith l asked.limits (g.W.Form.written a.form.now) asked.stats asked.more kinds (texts c.deref.result.now) path r.0 kept (change k.told k.count a.out.now p.new.out) (change e.told e.count a.err.now p.new.err) (p.new.err ≡ a.err.now) p.result)
-        c.language.ensures (answers c.language.result (texts c.deref.result.now) r.0 r.2))
+    × AnswersWith (language_of asked.real) asked.limits (g.W.Form.written a.form.now) asked.stats asked.more kinds (texts ns) path given kept (change k.told k.count a.out.now p.new.out) (change e.told e.count a.err.now p.new.err) (p.new.err ≡ a.err.now) p.result) c.deref.ensures.value (
+      r.0,
+      kept,
+      record { mid = c.load.new.files; files = r.1; same = c.in-Ok.ensures.same path; last = last },
+      subst (λ l. AnswersWith l asked.limits (g.W.Form.written a.form.now) asked.stats asked.more kinds (texts c.deref.result.now) path r.0 kept (change k.told k.count a.out.now p.new.out) (change e.told e.count a.err.now p.new.err) (p.new.err ≡ a.err.now) p.result)
+          c.language.ensures (answers c.language.result (texts c.deref.result.now) r.0 r.2),
+    )
 
 pub returns-in-Err-clause-answers : goal.returns-in-Err-clause-answers
 returns-in-Err-clause-answers g c =
