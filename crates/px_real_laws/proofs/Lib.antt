@@ -4,3 +4,5 @@ pub mod KeptFunctions
 pub mod ProcedureNumbers
 pub mod Renumbered
 pub mod RenumberedListed
+pub mod Narrowed
+pub mod Listed

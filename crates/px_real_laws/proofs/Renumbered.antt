@@ -9,6 +9,7 @@ use Rattle.px_terms.proofs.Recursion.{all_both}
 use Rattle.px_syntax.specs.declared.typed_expression.Relation.TheVariants as relation
 use Rattle.px_syntax.specs.TypedTree.{Expression, constant, null, local, negated, arithmetic, truth, cell, allocate, get_char, call, stop, Expressions, no_expressions, an_expression, Arguments, no_arguments, an_argument, passed, erased, Condition, compare, word, pointer, both, either, opposite, Place, local_place, cell_place, Statement, block, declare, assign, update, run_call, free, input, choose, loop, break, continue, return, evaluate, access, Statements, no_statements, a_statement}
 use Rattle.px_syntax.specs.ProgramTree.{ProcedureTree}
+use Rattle.px_programs.proofs.Lists.{all_first, all_second}
 use Rattle.px_meaning.specs.Values.{ValueType, Int, Pointer}
 use Rattle.px_meaning.specs.TypedProgram.{TypedProgram}
 use Rattle.px_meaning.specs.TreeTypes.{LocalTypes, type_of_cell, IsDefined, AgreesWith, IsOf, AreOf, ArePassed, IsCondition, IsPlaceOf, IsConditionIf, IsDeclared, IsReturned, IsStep, AreSteps, IsStatement, AreStatements, local_types, IsTypedProcedure}
@@ -32,8 +33,7 @@ module _ (r : Renumbering) (P Q : TypedProgram) where
   module _ (here there : LocalTypes) (same_locals : (n : ℕ) (t : ValueType) → here n ≡ Some t → there n ≡ Some (new_value r t)) where
     -- what is in the first of two that follow one another, and what is in the second
     both_same : (xs ys : List Sight) → AllByRecursion IsSame (xs ++ ys) → AllByRecursion IsSame xs × AllByRecursion IsSame ys
-    both_same [] ys s = (tt, s)
-    both_same (x ∷ xs) ys s = let k = both_same xs ys s.1 in ((s.0, k.0), k.1)
+    both_same xs ys s = (all_first IsSame xs ys s, all_second IsSame xs ys s)
 
     mutual
       of_expression : (t : ValueType) (e : Expression) → IsOf P here t e → AllByRecursion IsSame (in_expression e) → IsOf Q there (new_value r t) (new_expression r e)

@@ -6,6 +6,7 @@ use Rattle.px_terms.specs.declared.types.ValueType.{ValueType}
 use Rattle.px_terms.specs.declared.types.ValueType.TheVariants.{Int, Pointer}
 use Rattle.px_syntax.specs.TypedTree.{Expression, constant, null, local, negated, arithmetic, truth, cell, allocate, get_char, call, stop, Expressions, no_expressions, an_expression, Arguments, no_arguments, an_argument, passed, erased, Condition, compare, word, pointer, both, either, opposite, Place, local_place, cell_place, Statement, block, declare, assign, update, run_call, free, input, choose, loop, break, continue, return, evaluate, access, Statements, no_statements, a_statement}
 use Rattle.px_syntax.specs.ProgramTree.{ProcedureTree}
+use Rattle.px_programs.proofs.Lists.{all_first, all_second}
 use Rattle.px_programs.specs.Numbers.{IsValueListed, IsListed, AreListed, AreArgumentsListed, IsTestListed, IsPlaceListed, IsListedIf, IsTestListedIf, IsStatementListed, AreStatementsListed, IsProcedureListed}
 use Rattle.px_real_program.specs.Sights.{Sight, a_function, a_block, a_word, in_value, in_expression, in_expressions, in_arguments, in_condition, in_expression_if, in_condition_if, in_place, in_statement, in_statements, in_result, in_procedure}
 use Rattle.px_real_laws.specs.Renumbering.{Renumbering, new_value, new_expression, new_expressions, new_arguments, new_condition, new_place, new_statement, new_statements, new_procedure}
@@ -18,8 +19,7 @@ module _ (r : Renumbering) (names types : ℕ) where
   IsNew (a_word n) = ⊤
 
   both_new : (xs ys : List Sight) → AllByRecursion IsNew (xs ++ ys) → AllByRecursion IsNew xs × AllByRecursion IsNew ys
-  both_new [] ys s = (tt, s)
-  both_new (x ∷ xs) ys s = let k = both_new xs ys s.1 in ((s.0, k.0), k.1)
+  both_new xs ys s = (all_first IsNew xs ys s, all_second IsNew xs ys s)
 
   value_listed : (t : ValueType) → AllByRecursion IsNew (in_value t) → IsValueListed types (new_value r t)
   value_listed Int s = tt
