@@ -6,3 +6,4 @@ pub mod Renumbered
 pub mod RenumberedListed
 pub mod Narrowed
 pub mod Listed
+pub mod Typed
