@@ -3,7 +3,7 @@
 use Rattle.std.proofs.Common.{arith, ◌≡◌, ◌∙◌, ◌⊎◌, ◌≤◌, ◌+◌, ℕ, zero, suc, Bool, true, false, List, [], ◌∷◌, map, flat_map, length, slice_get, Option, Some, None, is_some, refl, sym, ap, subst, true≢false}
 use Rattle.std.specs.Prelude.{option_map, IfSome, ⊤}
 use Rattle.std.specs.List.{AllByRecursion}
-use Rattle.std.proofs.lemmas.Option.{slice_get-map, same_Some, none-some}
+use Rattle.std.proofs.lemmas.Option.{slice_get-map, slice_get_past, same_Some, none-some}
 use Rattle.px_base.specs.declared.trace.FieldId.{FieldId}
 use Rattle.px_terms.specs.Types.{types_of}
 use Rattle.px_terms.specs.declared.types.BlockType.TheVariants as K
@@ -29,11 +29,6 @@ use Rattle.px_real_laws.proofs.ProcedureNumbers as Procedures
 use Rattle.px_real_laws.proofs.Renumbered.{IsSameBlock, IsSameFunction, IsSame, still_typed}
 use Rattle.px_real_laws.proofs.Narrowed.{IsTypeAt, type_key, types_seen}
 use Rattle.px_real_laws.proofs.Listed.{blocks_listed, procedures_listed}
-
-none_beyond : {A : Type 0} (xs : List A) (n : ℕ) → length xs ≤ n → slice_get xs n ≡ None
-none_beyond [] n l = refl
-none_beyond (x ∷ xs) zero l = absurd (let z : ⊥ = omega (arith, l) in z)
-none_beyond (x ∷ xs) (suc n) l = none_beyond xs n (omega (arith, l))
 
 module _ (r : Renumbering) where
   -- a call agrees with a procedure by other numbers
@@ -78,7 +73,7 @@ module _ (files : List FileTree) where
 
     -- one that isn't kept is none by either number
     is_none_at : (n : ℕ) (ts : List ValueType) (result : Option ValueType) → length (kept_places 0 fs) ≤ n → AgreesWith (slice_get (procedures fs own) n) ts result
-    is_none_at n ts result l = subst (λ o. AgreesWith o ts result) (sym (none_beyond (procedures fs own) n (let c = count in omega (arith, l, c)))) tt
+    is_none_at n ts result l = subst (λ o. AgreesWith o ts result) (sym (slice_get_past (procedures fs own) n (let c = count in omega (arith, l, c)))) tt
 
     function_same : (n : ℕ) → IsSameFunction r P Q n
     function_same n ts result h = by (out_at all n) (unknown_at all n)
