@@ -75,6 +75,12 @@ too_few j t points i c xs gaps a left u l e =
 
 -- ---- one point
 
+-- the point at a place, and those that follow it
+pub here_by : (points : List Point) (i : ℕ) (p : Point) (later : List Point) → i < length points → p ≡ get_or points i p → later ≡ drop (i + 1) points → drop i points ≡ p ∷ later
+here_by points i p later h g l =
+    let e : suc i ≡ i + 1 = omega arith in
+    drop-cons points i p h ∙ ap (λ z. z ∷ drop (suc i) points) (sym g) ∙ ap (λ z. p ∷ drop z points) e ∙ ap (λ z. p ∷ z) (sym l)
+
 -- what is said of a prefix doesn't depend on the places that are left
 pub so_at : (j : JobTree) (q : Prefix) (p : Point) (later : List Point) (live ended : ℕ) (places others : List Leads) (xs : List Entry) (gaps : List Gap) →
     IsSo j (reading live ended places xs gaps) q p later → IsSo j (reading live ended others xs gaps) q p later
@@ -105,6 +111,16 @@ module _ (j : JobTree) (t : Table) (points : List Point) (i : ℕ) (old : Count)
   -- it isn't so
   pub fails_here : ¬ IsSo j Here (prefix_of stop) p later → IsFault j (whole j t) points (Some i)
   fails_here n = let e : i + 0 ≡ i = omega arith in subst (λ z. IsFault j (whole j t) points (Some z)) e (answers (Some 0) (λ h. n (so_back Here h)))
+
+  -- what an audit asks of it
+  abbrev Asked : Bool → Type 0
+  Asked b = b ≡ true ↔ IsSo j (reading old.live old.ended [] xs gaps) (prefix_of stop) p later
+
+  pub fails_by : (b : Bool) → Asked b → b ≡ false → IsFault j (whole j t) points (Some i)
+  fails_by b h e = fails_here (λ so. never_both b (h.1 (so_at j (prefix_of stop) p later old.live old.ended (a ∷ places_of j left) [] xs gaps so)) e)
+
+  pub so_by : (b : Bool) → Asked b → b ≡ true → IsSo j Here (prefix_of stop) p later
+  so_by b h e = so_at j (prefix_of stop) p later old.live old.ended [] (a ∷ places_of j left) xs gaps (h.0 e)
 
   -- it is so, and nothing is left
   pub is_all : IsSo j Here (prefix_of stop) p later → later ≡ [] → IsOver (after j Here p) → IsFault j (whole j t) points None
@@ -173,6 +189,13 @@ module _ (j : JobTree) (t : Table) (points : List Point) (i : ℕ) (old : Count)
     read_by e true h = let k = h.0 refl in is_read e k.0 k.1 k.2
     read_by e false h = isnt_read e (λ k. never_both false (h.1 k) refl)
 
+    -- the same of what an audit hasn't met then
+    pub read_with : more ≡ [] → (b : Bool) (xs' : List Entry) (gaps' : List Gap) → xs' ≡ entries_after p xs → gaps' ≡ drops_after p gaps →
+        (b ≡ true ↔ (later ≡ []) × (xs' ≡ []) × (gaps' ≡ [])) → IsFault j (whole j t) points (unless b (i + 1))
+    read_with e b xs' gaps' ex eg h =
+        read_by e b
+        (subst (λ z. b ≡ true ↔ (later ≡ []) × (z ≡ []) × (drops_after p gaps ≡ [])) ex (subst (λ z. b ≡ true ↔ (later ≡ []) × (xs' ≡ []) × (z ≡ [])) eg h))
+
     one_later : (o : Option ℕ) → IsFault j (after j Here p) later o → IsFault j (whole j t) points (later_by (i + 1) o)
     one_later None k = answers None (so_there Here so, k)
     one_later (Some m) k = let e : i + suc m ≡ i + 1 + m = omega arith in subst (λ z. IsFault j (whole j t) points (Some z)) e (answers (Some (suc m)) (so_there Here so, k))
@@ -186,3 +209,11 @@ module _ (j : JobTree) (t : Table) (points : List Point) (i : ℕ) (old : Count)
           forks = d.forks (forks_pop j rest f (subst (AreForks j) e forks)).1;
           fault = λ o k. one_later o (subst (λ z. IsFault j z later o) (sym is_after) (subst (λ z. IsFault j (There z) later o) same (subst (λ z. IsFault j (There (b ∷ places_of j again)) z o) (sym s) k)));
         }
+
+    -- with what an audit hasn't met then
+    pub goes_with : (rest again : List BranchPoint) (f : BranchPoint) (b : Leads) (count : Count) (xs' : List Entry) (gaps' : List Gap) → AreForks j more → more ≡ rest ++ f ∷ [] →
+        IsAdvanced j f rest again b → later ≡ drop (i + 1) points → count ≡ new → xs' ≡ entries_after p xs → gaps' ≡ drops_after p gaps → IsAuditing j t points (i + 1) count xs' gaps' b again
+    goes_with rest again f b count xs' gaps' forks e d s n ex eg =
+        subst (λ (z : Count). IsAuditing j t points (i + 1) z xs' gaps' b again) (sym n)
+        (subst (λ z. IsAuditing j t points (i + 1) new z gaps' b again) (sym ex)
+        (subst (λ z. IsAuditing j t points (i + 1) new (entries_after p xs) z b again) (sym eg) (goes_on rest again f b forks e d s)))
