@@ -1,5 +1,5 @@
 ghost use Rattle.std.specs.Prelude.{◌≡◌, ◌++◌, [], ◌∷◌, OnOk, IfOk};
-ghost use Rattle.px_entry.specs.Constraint.{found_atoms, apart_all};
+ghost use Rattle.px_entry.specs.Constraint.{found_atoms, apart_all, separate};
 ghost use Rattle.px_symexec.specs.Prefixes.{constraint};
 ghost use Rattle.px_explore.specs.Apart.{apart_of};
 
@@ -14,12 +14,22 @@ pub(crate) fn constraint(alloc: Global, state: &State) -> Result<Vec<Conj>, NoMe
     ensures { IfOk result (λ conjuncts. conjuncts.items ≡ constraint state.now) }
 {
     let mut conjuncts = state.pure.copy(alloc)?.into_vec();
-    let vars = state.vars.as_slice();
-    let atoms = state.atoms.as_slice();
-    for n in 0..atoms.len() {
-        put_apart(vars, &atoms[..n], &atoms[n], &mut conjuncts)?;
-    }
+    put_separate(state.vars.as_slice(), state.atoms.as_slice(), &mut conjuncts)?;
     Ok(conjuncts)
+}
+
+// What blocks assume of their places is put after conjuncts.
+pub(crate) fn put_separate(
+    vars: &[VarInfo],
+    atoms: &[Atom],
+    conjuncts: &mut Vec<Conj>,
+) -> Result<(), NoMemory>
+    ensures { OnOk result (conjuncts.new.items ≡ conjuncts.old.items ++ separate vars.now atoms.now) }
+{
+    for n in 0..atoms.len() {
+        put_apart(vars, &atoms[..n], &atoms[n], conjuncts)?;
+    }
+    Ok(())
 }
 
 // Unless its place is made, a block isn't null, and differs from the earlier ones.

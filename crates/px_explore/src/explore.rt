@@ -211,7 +211,8 @@ fn visit_all(
     ensures kinds { map (λ b. number b) domains.new.items ≡ map (λ b. number b) domains.old.items }
 {
     let first = start(alloc, job)?;
-    let mut points = Vec::new(alloc);
+    // (few have more than two points of choice open at once)
+    let mut points = Vec::with_capacity(alloc, 2)?;
     let mut steps = Items::new(alloc);
     let mut from = StepOutcome::Next(first);
     loop {

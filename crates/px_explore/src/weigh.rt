@@ -13,16 +13,17 @@ ghost use Rattle.px_explore.specs.Trails.{IsOn, IsKept, AreOf, IsBehind, Reaches
 ghost use Rattle.px_explore.specs.Weights as weights;
 ghost use Rattle.px_explore.specs.Weights.{IsWeighed, WeighsOn};
 
-use crate::constraints::constraint;
+use crate::constraints::{constraint, put_separate};
 use crate::stops::{Fork, Stop};
 use crate::trail::Trail;
 use px_callgraph::{Job, State};
 use px_entry::{Atom, Cause, Entry, Exit, Gap};
 use px_plain::{Plain, sat};
 use px_solver::{Decision, Values, found};
-use px_terms::{Conj, Content, Domain, NoMemory, ValueType, VarInfo, some_refutes};
+use px_terms::{Conj, Content, Domain, Items, NoMemory, ValueType, VarInfo, some_refutes};
 use px_ways::has_type;
 use std::alloc::Global;
+use std::mem::replace;
 
 // What a prefix gives, where it is live.
 #[derive(Drop)]
@@ -115,14 +116,21 @@ fn is_out(
     is_refuted(alloc, job, state, trail, domains)
 }
 
-// What is found of the end of a path, whose state isn't refuted.
-fn decided(alloc: Global, state: &State) -> Result<Decision, NoMemory>
-    requires askable { IsAskable state.now }
-    requires open { (kinds : List ℕ) × (¬ IsRefuted state.now.vars (constraint state.now) kinds) }
-    ensures { IfOk result (λ d. (kinds : List ℕ) → ¬ IsRefuted state.now.vars (constraint state.now) kinds → IsDecided state.now.vars (constraint state.now) kinds d) }
+// What is found of the end of a path, whose state isn't refuted. What its blocks assume stands behind its own conjuncts
+// meanwhile, and no conjunct is copied.
+fn decided(alloc: Global, state: &mut State) -> Result<Decision, NoMemory>
+    requires askable { IsAskable state.old }
+    requires open { (kinds : List ℕ) × (¬ IsRefuted state.old.vars (constraint state.old) kinds) }
+    ensures answer { IfOk result (λ d. (kinds : List ℕ) → ¬ IsRefuted state.old.vars (constraint state.old) kinds → IsDecided state.old.vars (constraint state.old) kinds d) }
+    ensures state { OnOk result (state.new ≡ state.old) }
 {
-    let conjuncts = constraint(alloc, state)?;
-    found(alloc, state.vars.as_slice(), &conjuncts)
+    let known = state.pure.len();
+    let mut conjuncts = replace(&mut state.pure, Items::new(alloc)).into_vec();
+    put_separate(state.vars.as_slice(), state.atoms.as_slice(), &mut conjuncts)?;
+    let decision = found(alloc, state.vars.as_slice(), &conjuncts)?;
+    conjuncts.truncate(known);
+    state.pure = Items::from_vec(conjuncts);
+    Ok(decision)
 }
 
 // The entry of a path that ends so.
@@ -163,7 +171,8 @@ fn weigh_end<'a>(
     if is_out(alloc, job, &state, trail, domains)? {
         return Ok(Weighed::Out);
     }
-    match decided(alloc, &state)? {
+    let mut state = state;
+    match decided(alloc, &mut state)? {
         Decision::Refuted => Ok(Weighed::Out),
         Decision::Undecided(hard) => Ok(Weighed::Misses(Gap {
             trace: state.trace,

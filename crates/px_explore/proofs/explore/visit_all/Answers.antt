@@ -12,13 +12,16 @@ pub loop-steps-init : goal.loop-steps-init
 loop-steps-init g c =
     let w = walk_of c.in_ok-first.first in record {
       kinds = c.requires.kinds;
-      ready = sets_ready c.args.trail.now _ (Next w) c.new-points.result.items c.requires.held c.new-points.ensures.items;
-      under_way = sets_out (job_tree c.args.job.now) c.new-steps.result w (Next w) c.new-points.result.items c.args.found.now c.requires.parameters c.new-steps.ensures c.in_ok-first.ensures refl
-          c.new-points.ensures.items c.requires.none;
+      ready = sets_ready c.args.trail.now _ (Next w) c.in_ok-points.points.items c.requires.held c.in_ok-points.ensures.items;
+      under_way = sets_out (job_tree c.args.job.now) c.new.result w (Next w) c.in_ok-points.points.items c.args.found.now c.requires.parameters c.new.ensures c.in_ok-first.ensures refl
+          c.in_ok-points.ensures.items c.requires.none;
     }
 
 pub returns-in_err-first-clause-kept : goal.returns-in_err-first-clause-kept
 returns-in_err-first-clause-kept g c = ([], c.requires.held.on)
+
+pub returns-in_err-points-clause-kept : goal.returns-in_err-points-clause-kept
+returns-in_err-points-clause-kept g c = ([], c.requires.held.on)
 
 pub advance-requires-clause-fork : goal.advance-requires-clause-fork
 advance-requires-clause-fork g c =
