@@ -17,6 +17,6 @@ large_marked n [] = refl
 large_marked n (p ∷ ps) = marked_first n (marked_from (suc n) (map missing ps)) (too_large_from (suc n) ps) p (is_too_large p) (large_marked (suc n) ps)
 
 -- those that are left out of a program
-pub out_is : (P : ProgramTree) (large : List Bool) (kept : ℕ) (out : List ProcId) → large ≡ map missing P.procedures → kept ≡ length P.procedures → out ≡ marked_from 0 large ++ left_out_above kept P.left → out ≡ out_of P
+pub out_is : (P : ProgramTree) (large : List Bool) (kept : ℕ) (out : List ProcId) → large ≡ map missing P.procedures → kept ≡ length P.procedures → out ≡ marked_from 0 large ++ left_out_above kept P.left P.out → out ≡ out_of P
 out_is P large kept out marks many is =
-    is ∙ ap₂ (λ (l : List ProcId) (k : ℕ). l ++ left_out_above k P.left) (ap (marked_from 0) marks ∙ large_marked 0 P.procedures) many
+    is ∙ ap₂ (λ (l : List ProcId) (k : ℕ). l ++ left_out_above k P.left P.out) (ap (marked_from 0) marks ∙ large_marked 0 P.procedures) many

@@ -72,8 +72,8 @@ module _ (ps : List ProcedureTree) (bodies : List Body) (large : List Bool) (h :
   pub many_large : length large ≡ length ps
   many_large = ap length h.large_are ∙ length-map ps missing
 
-  pub left_out_is : (left : List Left) (kept g : ℕ) (b before : Bool) → kept ≡ length ps → before ≡ get_or large g false → b ≡ (before || is_among g (left_out_above kept left)) →
-      (b ≡ true) ↔ Any (λ (p : ProcId). p.0 ≡ g) (too_large_from 0 ps ++ left_out_above (length ps) left)
-  left_out_is left kept g b before many was is =
-      flag_is g (too_large_from 0 ps ++ left_out_above (length ps) left) b
-      (is ∙ ap (λ n. before || is_among g (left_out_above n left)) many ∙ ap (λ z. z || is_among g (left_out_above (length ps) left)) (was ∙ ap (λ z. get_or z g false) h.large_are) ∙ sym (out_is (length ps) g ps left))
+  pub left_out_is : (left : List Left) (out : List ProcId) (kept g : ℕ) (b before : Bool) → kept ≡ length ps → before ≡ get_or large g false → b ≡ (before || is_among g (left_out_above kept left out)) →
+      (b ≡ true) ↔ Any (λ (p : ProcId). p.0 ≡ g) (too_large_from 0 ps ++ left_out_above (length ps) left out)
+  left_out_is left out kept g b before many was is =
+      flag_is g (too_large_from 0 ps ++ left_out_above (length ps) left out) b
+      (is ∙ ap (λ n. before || is_among g (left_out_above n left out)) many ∙ ap (λ z. z || is_among g (left_out_above (length ps) left out)) (was ∙ ap (λ z. get_or z g false) h.large_are) ∙ sym (out_is (length ps) g ps left out))

@@ -34,8 +34,8 @@ module _ (P : ProgramTree) (limits : LimitNumbers) (kinds : List ℕ) (bodies : 
       let (b, at, read) = item_at large n (omega arith) in
       elim (cases_Bool b) [
         | inl true_here ↦ absurd (t.1 (among_any n (work_of P limits kinds).out
-            (out_is (length P.procedures) n P.procedures P.left
-            ∙ or_left (get_or (map missing P.procedures) n false) (is_among n (left_out_above (length P.procedures) P.left)) (ap (λ z. get_or z n false) (sym h.large_are) ∙ read_or large n b at ∙ true_here))))
+            (out_is (length P.procedures) n P.procedures P.left P.out
+            ∙ or_left (get_or (map missing P.procedures) n false) (is_among n (left_out_above (length P.procedures) P.left P.out)) (ap (λ z. get_or z n false) (sym h.large_are) ∙ read_or large n b at ∙ true_here))))
         | inr false_here ↦ at ∙ ap Some false_here
       ]
 
@@ -45,10 +45,10 @@ module _ (P : ProgramTree) (limits : LimitNumbers) (kinds : List ℕ) (bodies : 
       let l = slice_get_within large n false at in
       let inside : n < length P.procedures = omega arith in (
         inside,
-        λ out. elim (or_cases (get_or (map missing P.procedures) n false) (is_among n (left_out_above (length P.procedures) P.left))
-            (sym (out_is (length P.procedures) n P.procedures P.left) ∙ any_among n (work_of P limits kinds).out out)) [
+        λ out. elim (or_cases (get_or (map missing P.procedures) n false) (is_among n (left_out_above (length P.procedures) P.left P.out))
+            (sym (out_is (length P.procedures) n P.procedures P.left P.out) ∙ any_among n (work_of P limits kinds).out out)) [
               | inl true_here ↦ apart (sym (ap (λ z. get_or z n false) (sym h.large_are) ∙ read_or large n false at) ∙ true_here)
-              | inr among ↦ never_above (length P.procedures) n P.left inside among
+              | inr among ↦ never_above (length P.procedures) n P.left P.out inside among
             ],
       )
     where

@@ -34,13 +34,20 @@ abbrev pub too_large_from : ℕ → List ProcedureTree → List ProcId
 too_large_from n [] = []
 too_large_from n (p ∷ ps) = if is_too_large p then record { 0 = n } ∷ too_large_from (suc n) ps else too_large_from (suc n) ps
 
--- the functions that are left out, and of which none is kept
-abbrev pub left_out_above : ℕ → List Left → List ProcId
-left_out_above kept left = filter (λ (f : ProcId). not (nat_lt f.0 kept)) (filter_map (λ (l : Left). l.proc) left)
+-- those of these functions of which none is kept
+abbrev pub above : ℕ → List ProcId → List ProcId
+above kept functions = filter (λ (f : ProcId). not (nat_lt f.0 kept)) functions
+
+abbrev pub items_above : ℕ → List Left → List ProcId
+items_above kept left = above kept (filter_map (λ (l : Left). l.proc) left)
+
+-- the functions that are left out, with an item or without one, and of which none is kept
+abbrev pub left_out_above : ℕ → List Left → List ProcId → List ProcId
+left_out_above kept left out = items_above kept left ++ above kept out
 
 -- the procedures that are too large, and the functions that are left out and of which none is kept
 abbrev pub out_of : ProgramTree → List ProcId
-out_of P = too_large_from 0 P.procedures ++ left_out_above (length P.procedures) P.left
+out_of P = too_large_from 0 P.procedures ++ left_out_above (length P.procedures) P.left P.out
 
 -- the lowered bodies of the kept procedures; a procedure that is too large is left out
 abbrev pub work_of : ProgramTree → LimitNumbers → List ℕ → Work

@@ -2,7 +2,7 @@ ghost use Rattle.std.specs.Prelude.{◌≡◌, ◌++◌, ◌∷◌, [], List, Bo
 ghost use Rattle.px_callgraph.specs.CallGraphs.{bodies_in, IsGraphOf};
 ghost use Rattle.px_syntax.specs.ProgramTree.{program_tree};
 ghost use Rattle.px_findings.specs.Bodies.{AreLowered, CallsNamed, marked_from};
-ghost use Rattle.px_findings.specs.Found.{out_of, left_out_above};
+ghost use Rattle.px_findings.specs.Found.{out_of, above, items_above, left_out_above};
 
 use crate::bodies::{Lowered, lower_all};
 use crate::plan::Plan;
@@ -37,7 +37,7 @@ pub fn desk_parts(alloc: Global, program: &Program) -> Result<DeskParts, NoMemor
 {
     let Lowered { bodies, large } = lower_all(alloc, program)?;
     let Plan { graph, kept, .. } = plan_for(alloc, program, &bodies, &large)?;
-    let out = left_out(alloc, &large, kept, program.left.as_slice())?;
+    let out = left_out(alloc, &large, kept, program)?;
     Ok(DeskParts {
         bodies: Items::from_vec(bodies),
         graph,
@@ -51,14 +51,15 @@ fn left_out(
     alloc: Global,
     large: &[bool],
     kept: u32,
-    left: &[Left],
+    program: &Program,
 ) -> Result<Items<ProcId>, NoMemory>
     requires { length large.now ≡ kept }
-    ensures { IfOk result (λ out. out ≡ marked_from 0 large.now ++ left_out_above kept left.now) }
+    ensures { IfOk result (λ out. out ≡ marked_from 0 large.now ++ left_out_above kept program.now.left program.now.out) }
 {
     let mut out = Items::new(alloc);
     put_large(&mut out, large, kept)?;
-    put_left(&mut out, kept, left)?;
+    put_left(&mut out, kept, program.left.as_slice())?;
+    put_names(&mut out, kept, program.out.as_slice())?;
     Ok(out)
 }
 
@@ -75,7 +76,7 @@ fn put_large(out: &mut Items<ProcId>, large: &[bool], kept: u32) -> Result<(), N
 
 // Puts the functions of left-out items after the others, of those that have a number from `kept` on.
 fn put_left(out: &mut Items<ProcId>, kept: u32, left: &[Left]) -> Result<(), NoMemory>
-    ensures { OnOk result (out.new ≡ out.old ++ left_out_above kept left.now) }
+    ensures { OnOk result (out.new ≡ out.old ++ items_above kept left.now) }
 {
     for item in left {
         put_item(out, kept, item)?;
@@ -83,9 +84,19 @@ fn put_left(out: &mut Items<ProcId>, kept: u32, left: &[Left]) -> Result<(), NoM
     Ok(())
 }
 
+// Puts these functions after the others, of those that have a number from `kept` on.
+fn put_names(out: &mut Items<ProcId>, kept: u32, names: &[ProcId]) -> Result<(), NoMemory>
+    ensures { OnOk result (out.new ≡ out.old ++ above kept names.now) }
+{
+    for name in names {
+        put_if(out, *name, name.0 >= kept)?;
+    }
+    Ok(())
+}
+
 // Puts the function of one item after the others, if it has one with such a number.
 fn put_item(out: &mut Items<ProcId>, kept: u32, item: &Left) -> Result<(), NoMemory>
-    ensures { OnOk result (out.new ≡ out.old ++ left_out_above kept (item.now ∷ [])) }
+    ensures { OnOk result (out.new ≡ out.old ++ items_above kept (item.now ∷ [])) }
 {
     match item.proc {
         Some(proc) => put_if(out, proc, proc.0 >= kept),

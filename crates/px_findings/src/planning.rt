@@ -3,7 +3,7 @@ ghost use Rattle.px_base.specs.LimitNumbers.{LimitNumbers};
 ghost use Rattle.px_callgraph.specs.CallGraphs.{bodies_in, IsGraphOf};
 ghost use Rattle.px_syntax.specs.ProgramTree.{program_tree};
 ghost use Rattle.px_jobs.specs.Plans.{is_among, IsPlan};
-ghost use Rattle.px_findings.specs.Found.{work_of, left_out_above};
+ghost use Rattle.px_findings.specs.Found.{work_of, above, items_above};
 ghost use Rattle.px_findings.specs.Bodies.{AreLowered, CallsNamed};
 
 use crate::plan::Plan;
@@ -36,6 +36,7 @@ pub(crate) fn plan_for(
     let graph = Graph::new(alloc, bodies, kept, names)?;
     let mut out = with_places(alloc, large, names as usize)?;
     put_left_out(&mut out, kept, program.left.as_slice());
+    put_names_out(&mut out, kept, program.out.as_slice());
     Ok(Plan { graph, kept, out })
 }
 
@@ -49,10 +50,10 @@ fn with_places(alloc: Global, large: &[bool], places: usize) -> Result<Vec<bool>
     Ok(out)
 }
 
-// Marks the functions that are left out, and of which none is kept.
+// Marks the functions of items that are left out, and of which none is kept.
 fn put_left_out(out: &mut Vec<bool>, kept: u32, left: &[Left])
     ensures places { length out.new.items ≡ length out.old.items }
-    ensures marks { (g : ℕ) → g < length out.old.items → slice_index_or out.new.items g false ≡ (slice_index_or out.old.items g false || is_among g (left_out_above kept left.now)) }
+    ensures marks { (g : ℕ) → g < length out.old.items → slice_index_or out.new.items g false ≡ (slice_index_or out.old.items g false || is_among g (items_above kept left.now)) }
 {
     for item in left {
         put_item(out, kept, item);
@@ -62,10 +63,20 @@ fn put_left_out(out: &mut Vec<bool>, kept: u32, left: &[Left])
 // Marks the function of one item, if there is one, if none is kept, and if it has a place.
 fn put_item(out: &mut Vec<bool>, kept: u32, item: &Left)
     ensures places { length out.new.items ≡ length out.old.items }
-    ensures marks { (g : ℕ) → g < length out.old.items → slice_index_or out.new.items g false ≡ (slice_index_or out.old.items g false || is_among g (left_out_above kept (item.now ∷ []))) }
+    ensures marks { (g : ℕ) → g < length out.old.items → slice_index_or out.new.items g false ≡ (slice_index_or out.old.items g false || is_among g (items_above kept (item.now ∷ []))) }
 {
     if let Some(proc) = item.proc {
         put_out(out, kept, proc);
+    }
+}
+
+// Marks these functions, of which none is kept.
+fn put_names_out(out: &mut Vec<bool>, kept: u32, names: &[ProcId])
+    ensures places { length out.new.items ≡ length out.old.items }
+    ensures marks { (g : ℕ) → g < length out.old.items → slice_index_or out.new.items g false ≡ (slice_index_or out.old.items g false || is_among g (above kept names.now)) }
+{
+    for name in names {
+        put_out(out, kept, *name);
     }
 }
 

@@ -28,8 +28,9 @@ pub record ProgramTree : Type 0 where
   pub procedures : List ProcedureTree
   pub types : List BlockType
   pub left : List Left
+  pub out : List ProcId
   pub files : List (List ℕ)
   pub words : List (List ℕ)
 
 abbrev pub program_tree : Program → ProgramTree
-program_tree p = record { names = p.names; kept = p.kept; procedures = map procedure_tree p.procedures; types = p.types; left = p.left; files = p.files; words = p.words }
+program_tree p = record { names = p.names; kept = p.kept; procedures = map procedure_tree p.procedures; types = p.types; left = p.left; out = p.out; files = p.files; words = p.words }

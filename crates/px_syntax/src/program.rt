@@ -54,14 +54,16 @@ pub struct Procedure {
 /// then the names of left-out functions that aren't kept, in the order of their places; then the names that
 /// are only called or declared, in the order of first sight. `procedures[n]` is the kept function n. `types`
 /// has the block type of an `int` first, then each other block type that the kept items name, a base before
-/// its pointers. `left` has the left-out items in the order of their places. `words` has the words of what isn't
-/// understood, in the order of first sight: word n of a `Stop` is `words[n]`.
+/// its pointers. `left` has the left-out items in the order of their places, and `out` the names that are left out
+/// without an item. `words` has the words of what isn't understood, in the order of first sight: word n of a `Stop`
+/// is `words[n]`.
 pub struct Program {
     pub names: Items<Name>,
     pub kept: u32,
     pub procedures: Items<Procedure>,
     pub types: Items<BlockType>,
     pub left: Items<Left>,
+    pub out: Items<ProcId>,
     pub files: Items<Name>,
     pub words: Items<Name>,
 }
@@ -96,6 +98,7 @@ impl Drop for Program {
             procedures: _,
             types: _,
             left: _,
+            out: _,
             files: _,
             words: _,
         } = self;

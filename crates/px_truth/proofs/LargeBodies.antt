@@ -15,7 +15,7 @@ use Rattle.px_pieces.specs.Found.{Found, table_of, tables_in}
 use Rattle.px_text_report.specs.Known.{known_of, known}
 use Rattle.px_text_report.specs.LeftOut.{without_table}
 use Rattle.px_findings.proofs.WordLemmas.{no_table}
-use Rattle.px_findings.specs.Found.{is_too_large, too_large_from, left_out_above, work_of, AreCertified}
+use Rattle.px_findings.specs.Found.{is_too_large, too_large_from, above, items_above, left_out_above, work_of, AreCertified}
 use Rattle.px_truth.specs.Laws.{AreTooLarge}
 use Rattle.px_truth.proofs.Lists.{out_of_range}
 use Rattle.px_truth.proofs.LeftLines.{placed_second, large, without_in}
@@ -58,20 +58,25 @@ module _ (P : ProgramTree) (limits : LimitNumbers) (kinds : List ℕ) (f : Found
   -- one that isn't too large isn't left out
   not_out : (n : ℕ) (p : ProcedureTree) → slice_get P.procedures n ≡ Some p → is_too_large p ≡ false → ¬ IsLeftOut Works n
   not_out n p at' small (k, q, l, e, is) =
-      by (in_either q (too_large_from 0 P.procedures) (left_out_above (length P.procedures) P.left) (contains_in q (too_large_from 0 P.procedures ++ left_out_above (length P.procedures) P.left) (k, l, e)))
+      by (in_either q (too_large_from 0 P.procedures) (left_out_above (length P.procedures) P.left P.out) (contains_in q (too_large_from 0 P.procedures ++ left_out_above (length P.procedures) P.left P.out) (k, l, e)))
     where
-      by : IsIn q (too_large_from 0 P.procedures) ⊎ IsIn q (left_out_above (length P.procedures) P.left) → ⊥
+      not_kept : (functions : List ProcId) → IsIn q (above (length P.procedures) functions) → ⊥
+      not_kept functions h =
+          let test : not (nat_lt q.0 (length P.procedures)) ≡ true = passes (λ (g : ProcId). not (nat_lt g.0 (length P.procedures))) functions q h in
+          let least = ltb-false q.0 (length P.procedures) (not-true (nat_lt q.0 (length P.procedures)) test) in
+          let within = slice_get_within P.procedures n p at' in
+          let no : ⊥ = omega (arith, least, within, is) in no
+
+      by : IsIn q (too_large_from 0 P.procedures) ⊎ IsIn q (left_out_above (length P.procedures) P.left P.out) → ⊥
       by (inl h) =
           let (i, r, own, there, big) = large_from 0 P.procedures q h in
           let same : i ≡ n = omega (arith, own, is) in
           let r_is : r ≡ p = same_Some _ _ (sym there ∙ ap (slice_get P.procedures) same ∙ at') in
           both_ways _ small (ap is_too_large (sym r_is) ∙ big)
-      by (inr h) =
-          let test : not (nat_lt q.0 (length P.procedures)) ≡ true =
-          passes (λ (g : ProcId). not (nat_lt g.0 (length P.procedures))) (filter_map (λ (m : Left). m.proc) P.left) q h in
-          let above = ltb-false q.0 (length P.procedures) (not-true (nat_lt q.0 (length P.procedures)) test) in
-          let within = slice_get_within P.procedures n p at' in
-          let no : ⊥ = omega (arith, above, within, is) in no
+      by (inr h) = elim (in_either q (items_above (length P.procedures) P.left) (above (length P.procedures) P.out) h) [
+        | inl k ↦ not_kept (filter_map (λ (m : Left). m.proc) P.left) k
+        | inr k ↦ not_kept P.out k
+      ]
 
   too_large : (n : ℕ) (p : ProcedureTree) → slice_get P.procedures n ≡ Some p → tables_in f n ≡ None → is_too_large p ≡ true
   too_large n p at' none = by (is_too_large p) refl

@@ -1,6 +1,7 @@
 -- A program from its parts.
 use Rattle.std.proofs.Common.{◌≡◌, ◌∙◌, ℕ, List, [], length, map, refl, sym, ap, ap₂, subst}
 use Rattle.std.proofs.lemmas.List.{length-map}
+use Rattle.px_base.specs.declared.trace.ProcId.{ProcId}
 use Rattle.px_syntax.specs.declared.type_name.TypeName.{TypeName}
 use Rattle.px_syntax.specs.declared.program.Procedure.{Procedure}
 use Rattle.px_syntax.specs.ParsedTree.{FileTree}
@@ -31,16 +32,17 @@ plan_made files p bare env js types names h hj hb hn ht he =
     (subst (λ v. IsPlanWith env js types v files p) n h)))
 
 -- the program of a plan and its procedures
-pub program_planned : (files : List FileTree) (p : Plan) (procedures : List Procedure) (kept : ℕ) (words : List (List ℕ)) → kept ≡ length procedures → words ≡ [] → IsPlanOf files p →
+pub program_planned : (files : List FileTree) (p : Plan) (procedures : List Procedure) (kept : ℕ) (out : List ProcId) (words : List (List ℕ)) → kept ≡ length procedures → out ≡ [] → words ≡ [] → IsPlanOf files p →
     map procedure_tree procedures ≡ procedures_of files →
-    record { names = p.names; kept = kept; procedures = map procedure_tree procedures; types = p.blocks; left = p.left; files = p.files; words = words } ≡ program_of files
+    record { names = p.names; kept = kept; procedures = map procedure_tree procedures; types = p.blocks; left = p.left; out = out; files = p.files; words = words } ≡ program_of files
 unfolding program_of program_of_judged
-program_planned files p procedures kept words k w h e = λ i. record {
+program_planned files p procedures kept out words k o w h e = λ i. record {
   names = h.names i;
   kept = (k ∙ sym (length-map procedures procedure_tree) ∙ ap length e) i;
   procedures = e i;
   types = h.blocks i;
   left = h.left i;
+  out = o i;
   files = h.files i;
   words = w i;
 }

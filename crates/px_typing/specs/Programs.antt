@@ -127,6 +127,7 @@ program_of_judged env js types names files =
       procedures = procedures;
       types = map (block_type env) types;
       left = filter_map (left_of env) js;
+      out = [];
       files = map (λ f. f.name) files;
       words = [];
     }

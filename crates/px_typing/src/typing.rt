@@ -180,6 +180,7 @@ fn planned_program(
         procedures,
         types: blocks,
         left,
+        out: Items::new(alloc),
         files,
         words: Items::new(alloc),
     })

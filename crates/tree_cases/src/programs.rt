@@ -29,6 +29,7 @@ pub fn program(alloc: Global, parts: &[&str]) -> Result<Program> {
         procedures,
         types: types(alloc)?,
         left: Items::new(alloc),
+        out: Items::new(alloc),
         files: named(alloc, &["t"])?,
         words: named(alloc, &parts_of(alloc, part_at(parts, 1)?, ' ')?)?,
     })

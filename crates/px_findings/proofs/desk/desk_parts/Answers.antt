@@ -1,8 +1,6 @@
-use Rattle.std.proofs.Common.{◌++◌, length, sym, ap, subst, ◌∙◌}
+use Rattle.std.proofs.Common.{length, sym, ap, subst, ◌∙◌}
 use Rattle.px_callgraph.specs.CallGraphs.{bodies_in, IsGraphOf}
 use Rattle.px_syntax.specs.ProgramTree.{program_tree}
-use Rattle.px_findings.specs.Found.{left_out_above}
-use Rattle.px_findings.specs.Bodies.{marked_from}
 use Rattle.px_findings.proofs.DeskLemmas.{out_is}
 use Rattle.px_findings.proofs.PlanLemmas.{many_bodies}
 use Rattle.px_findings.proofs.desk.desk_parts.Goals as goal
@@ -20,4 +18,4 @@ returns-clause-out c =
     let l = c.in_ok-bodies.field-0 in
     out_is P c.deref-3.result.now c.in_ok-graph.field-0.kept c.in_ok-out.out (c.deref-3.ensures.value ∙ c.in_ok-bodies.ensures.large_are)
     (c.in_ok-graph.ensures.kept ∙ ap length c.deref.ensures.value ∙ many_bodies P.procedures l.bodies.items l.large.items c.in_ok-bodies.ensures)
-    (c.in_ok-out.ensures ∙ ap (λ z. marked_from 0 c.deref-3.result.now ++ left_out_above c.in_ok-graph.field-0.kept z) c.as_slice.ensures)
+    c.in_ok-out.ensures

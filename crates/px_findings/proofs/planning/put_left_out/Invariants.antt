@@ -1,5 +1,5 @@
 use Rattle.std.proofs.Common.{◌≡◌, ◌<◌, ℕ, ◌||◌, false, get_or, length, drop}
-use Rattle.px_findings.specs.Found.{left_out_above}
+use Rattle.px_findings.specs.Found.{items_above}
 use Rattle.px_jobs.specs.Plans.{is_among}
 use Rattle.px_findings.proofs.planning.put_left_out.Given as goal
 
@@ -7,5 +7,5 @@ use Rattle.px_findings.proofs.planning.put_left_out.Given as goal
 abbrev pub invariant-loop-item : goal.invariant-loop-item
 invariant-loop-item l = record {
   places : length l.out.items ≡ length l.fn.out.items;
-  marks : (g : ℕ) → g < length l.fn.out.items → (get_or l.out.items g false || is_among g (left_out_above l.kept (drop l.item-index l.left))) ≡ (get_or l.fn.out.items g false || is_among g (left_out_above l.kept l.left));
+  marks : (g : ℕ) → g < length l.fn.out.items → (get_or l.out.items g false || is_among g (items_above l.kept (drop l.item-index l.left))) ≡ (get_or l.fn.out.items g false || is_among g (items_above l.kept l.left));
 }
