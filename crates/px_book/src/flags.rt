@@ -40,8 +40,11 @@ impl Flags {
         ensures { self.new ≡ slice_set self.old place flag }
     {
         let block = place / 32;
+        let was = self.flags[place];
         self.flags[place] = flag;
-        self.marks[block] = least_in(&self.flags, block).is_some();
+        if was || flag {
+            self.marks[block] = flag || least_in(&self.flags, block).is_some();
+        }
     }
 
     /// The least place whose flag is set. Takes no memory.

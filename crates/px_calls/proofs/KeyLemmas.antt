@@ -1,9 +1,10 @@
 -- Conjuncts beside their numbers.
-use Rattle.std.proofs.Common.{◌≡◌, ◌<◌, ◌+◌, ◌-◌, ℕ, Bool, true, false, ◌||◌, List, take, length, get_or, map, option_map, slice_get, refl, ap, sym, ◌∙◌}
+use Rattle.std.proofs.Common.{◌≡◌, ◌<◌, ◌≤◌, ◌-◌, ℕ, Bool, true, false, List, length, get_or, map, option_map, slice_get, refl, ap, sym, ◌∙◌, arith}
 use Rattle.std.specs.List.{list_any}
-use Rattle.std.proofs.lemmas.List.{get_or-map, length-map}
-use Rattle.std.proofs.lemmas.List.Folds.{list_any_more, list_any-from_Any}
+use Rattle.std.proofs.lemmas.List.{get_or-map, get_or_default, length-map}
+use Rattle.std.proofs.lemmas.List.Folds.{list_any_none, list_any-from_Any}
 use Rattle.std.proofs.lemmas.Option.{slice_get-map}
+use Rattle.px_chains.specs.Ends.{IsEndOfKey}
 use Rattle.px_terms.specs.Monomials.{term_of}
 use Rattle.px_terms.specs.declared.monomial.Monomial.{Monomial}
 use Rattle.px_terms.specs.Polynomials.{Polynomial}
@@ -23,10 +24,6 @@ differ : (b : Bool) (c d : Conj) → same_conjunct c d ≡ b → (key_of c ≡ k
 differ true c d e n = absurd (n (ap key_of ((tests_decide.equality c d).0 e)))
 differ false c d e n = refl
 
--- conjuncts of different numbers aren't the same
-pub other_key : (c d : Conj) (k l : ℕ) → k ≡ key_of c → l ≡ key_of d → (k ≡ l → ⊥) → false ≡ same_conjunct c d
-other_key c d k l e f n = sym (differ (same_conjunct c d) c d refl (λ h. n (e ∙ h ∙ sym f)))
-
 -- the number beside a conjunct
 pub key_at : (all : List Conj) (keys : List ℕ) (i : ℕ) (c : Conj) → i < length all → keys ≡ map key_of all → c ≡ get_or all i c → get_or keys i 0 ≡ key_of c
 key_at all keys i c h e f = ap (λ ks. get_or ks i 0) e ∙ get_or-map key_of all i c 0 h ∙ ap key_of (sym f)
@@ -34,9 +31,15 @@ key_at all keys i c h e f = ap (λ ks. get_or ks i 0) e ∙ get_or-map key_of al
 pub one_found : (c d : Conj) (all : List Conj) (i : ℕ) (b : Bool) → i < length all → d ≡ get_or all i d → b ≡ same_conjunct c d → b ≡ true → true ≡ list_any (same_conjunct c) all
 one_found c d all i b h e f t = sym (list_any-from_Any (same_conjunct c) all (i, d, h, sym e, sym f ∙ t))
 
-pub none_more : (c d : Conj) (all : List Conj) (i : ℕ) (b : Bool) → i < length all → d ≡ get_or all i d → b ≡ same_conjunct c d → b ≡ false →
-    list_any (same_conjunct c) (take i all) ≡ false → list_any (same_conjunct c) (take (i + 1) all) ≡ false
-none_more c d all i b h e f t n =
-    list_any_more (same_conjunct c) all i d h
-    ∙ ap (λ z. z || same_conjunct c (get_or all i d)) n
-    ∙ ap (same_conjunct c) (sym e) ∙ sym f ∙ t
+-- behind the last place of a conjunct's number, and up to where it was looked for, it doesn't stand
+pub none_of_key : (c : Conj) (all : List Conj) (keys : List ℕ) (key m n : ℕ) → keys ≡ map key_of all → key ≡ key_of c → m ≤ length all → IsEndOfKey keys key m n →
+    (i : ℕ) → n ≤ i → i < m → same_conjunct c (get_or all i c) ≡ false
+none_of_key c all keys key m n e f w h i l k =
+    let d = get_or all i c in
+    differ (same_conjunct c d) c d refl (λ q. h.none_after i l k (key_at all keys i d (omega arith) e (get_or_default all i c d (omega arith)) ∙ sym q ∙ sym f))
+
+pub not_here : (c d : Conj) (all : List Conj) (place i : ℕ) (b : Bool) → i < length all → i ≡ place → d ≡ get_or all place d → b ≡ same_conjunct c d → b ≡ false → same_conjunct c (get_or all i c) ≡ false
+not_here c d all place i b h e f g t = ap (same_conjunct c) (get_or_default all i c d h ∙ ap (λ n. get_or all n d) e ∙ sym f) ∙ sym g ∙ t
+
+pub all_none : (c : Conj) (all : List Conj) → ((i : ℕ) → i < length all → same_conjunct c (get_or all i c) ≡ false) → list_any (same_conjunct c) all ≡ false
+all_none c all h = list_any_none (same_conjunct c) all (λ i d l. ap (same_conjunct c) (get_or_default all i d c l) ∙ h i l)

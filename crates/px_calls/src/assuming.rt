@@ -9,6 +9,7 @@ ghost use Rattle.px_calls.specs.Assuming.{IsAssumed, AreAssumed};
 ghost use Rattle.px_calls.specs.Keys as numbers;
 
 use crate::keys::{is_among, key_of, keys_of};
+use px_chains::Chains;
 use px_match::{Claimed, claim_through, stands};
 use px_terms::{Conj, Content, Items, NoMemory, Var, VarInfo};
 use std::alloc::Global;
@@ -41,7 +42,7 @@ pub(crate) fn assume_all(
         long: false,
     };
     let ours = keys_of(alloc, pure)?;
-    let mut keys = Vec::new(alloc);
+    let mut keys = Chains::new(alloc);
     for conjunct in theirs {
         let claimed = claim_through(alloc, substitution, conjunct)?;
         assume_claim(vars, pure, &ours, &mut assumed, &mut keys, claimed)?;
@@ -53,14 +54,14 @@ pub(crate) fn assume_all(
 fn assume_claim(
     vars: &[VarInfo],
     pure: &[Conj],
-    ours: &[u32],
+    ours: &Chains,
     assumed: &mut Assumed,
-    keys: &mut Vec<u32>,
+    keys: &mut Chains,
     claimed: Claimed,
 ) -> Result<(), NoMemory>
     requires ours { ours.now ≡ map numbers.key_of pure.now }
-    requires keys { keys.old.items ≡ map numbers.key_of assumed.old.added }
-    ensures keys { OnOk result (keys.new.items ≡ map numbers.key_of assumed.new.added) }
+    requires keys { keys.old ≡ map numbers.key_of assumed.old.added }
+    ensures keys { OnOk result (keys.new ≡ map numbers.key_of assumed.new.added) }
     ensures assumed { OnOk result ((stood : List ConjOf) (long : Bool) (claim : renaming.Claim) → IsClaimed claimed claim → IsAssumed pure.now stood long assumed.old → IsAssumed pure.now (renaming.assume_claim vars.now stood claim) (long || list_any is_long (renaming.claim_terms claim)) assumed.new) }
 {
     match claimed {
@@ -75,14 +76,14 @@ fn assume_claim(
 fn assume_short(
     vars: &[VarInfo],
     pure: &[Conj],
-    ours: &[u32],
+    ours: &Chains,
     assumed: &mut Assumed,
-    keys: &mut Vec<u32>,
+    keys: &mut Chains,
     conjunct: Conj,
 ) -> Result<(), NoMemory>
     requires ours { ours.now ≡ map numbers.key_of pure.now }
-    requires keys { keys.old.items ≡ map numbers.key_of assumed.old.added }
-    ensures keys { OnOk result (keys.new.items ≡ map numbers.key_of assumed.new.added) }
+    requires keys { keys.old ≡ map numbers.key_of assumed.old.added }
+    ensures keys { OnOk result (keys.new ≡ map numbers.key_of assumed.new.added) }
     ensures assumed { OnOk result ((stood : List ConjOf) (long : Bool) → is_long_conjunct conjunct ≡ false → IsAssumed pure.now stood long assumed.old → IsAssumed pure.now (decisions.assume vars.now stood conjunct) long assumed.new) }
 {
     let key = key_of(&conjunct);
@@ -107,9 +108,9 @@ fn assume_short(
 fn stands_by_now(
     vars: &[VarInfo],
     pure: &[Conj],
-    ours: &[u32],
+    ours: &Chains,
     added: &[Conj],
-    keys: &[u32],
+    keys: &Chains,
     key: u32,
     conjunct: &Conj,
 ) -> bool

@@ -4,6 +4,7 @@ ghost use Rattle.px_terms.specs.Monomials.{term_of};
 ghost use Rattle.px_entry.specs.Equality.{same_conjunct};
 ghost use Rattle.px_calls.specs.Keys as spec;
 
+use px_chains::Chains;
 use px_terms::{Conj, Monomial, NoMemory, Place, Poly};
 use std::alloc::Global;
 
@@ -53,35 +54,36 @@ pub(crate) fn key_of(c: &Conj) -> u32
 }
 
 /// The numbers of conjuncts, in order.
-pub(crate) fn keys_of(alloc: Global, all: &[Conj]) -> Result<Vec<u32>, NoMemory>
-    ensures { IfOk result (λ keys. keys.items ≡ map spec.key_of all.now) }
+pub(crate) fn keys_of(alloc: Global, all: &[Conj]) -> Result<Chains, NoMemory>
+    ensures { IfOk result (λ keys. keys ≡ map spec.key_of all.now) }
 {
-    let mut keys = Vec::with_capacity(alloc, all.len())?;
+    let mut keys = Chains::new(alloc);
     for c in all {
         keys.push(key_of(c))?;
     }
     Ok(keys)
 }
 
-// Whether both are the same conjunct, where these are their numbers.
-fn is_same(key: u32, c: &Conj, other_key: u32, other: &Conj) -> bool
-    requires one { key ≡ spec.key_of c.now }
-    requires other { other_key ≡ spec.key_of other.now }
+fn is_same(c: &Conj, other: &Conj) -> bool
     ensures { result ≡ same_conjunct c.now other.now }
 {
-    key == other_key && c.equals(other)
+    c.equals(other)
 }
 
-/// Whether a conjunct is one of those that stand beside their numbers. It is compared with those of its own number alone.
-pub(crate) fn is_among(keys: &[u32], all: &[Conj], key: u32, c: &Conj) -> bool
+/// Whether a conjunct is one of those that have these numbers. It is compared with those of its own number, and the others
+/// aren't looked at.
+pub(crate) fn is_among(keys: &Chains, all: &[Conj], key: u32, c: &Conj) -> bool
     requires keys { keys.now ≡ map spec.key_of all.now }
     requires key { key ≡ spec.key_of c.now }
     ensures { result ≡ list_any (same_conjunct c.now) all.now }
 {
-    for i in 0..all.len() {
-        if is_same(key, c, keys[i], &all[i]) {
+    let mut end = keys.end_of(key);
+    while end > 0 {
+        let place = end - 1;
+        if is_same(c, &all[place]) {
             return true;
         }
+        end = keys.end_before(place);
     }
     false
 }

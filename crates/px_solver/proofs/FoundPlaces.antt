@@ -1,12 +1,12 @@
 -- The places of the final values.
-use Rattle.std.proofs.Common.{◌≡◌, ◌⊎◌, inl, inr, ℕ, zero, suc, ◌+◌, ◌-◌, ◌<◌, ◌≤◌, List, length, get_or, refl, sym, ap, subst, ◌∙◌, arith}
+use Rattle.std.proofs.Common.{◌≡◌, ◌⊎◌, inl, inr, ℕ, zero, suc, ◌+◌, ◌-◌, ◌^◌, ◌<◌, ◌≤◌, List, length, get_or, refl, sym, ap, subst, ◌∙◌, arith}
 use Rattle.std.specs.Prelude.{Bool, true, false, Some, IsSomeAnd, cond, slice_get}
 use Rattle.std.specs.Int.{w32}
 use borrow.Author.Gap.{read_sfits}
 use Rattle.std.proofs.lemmas.Bool.{cases_lt, eq-eqb, cases_Bool}
 use Rattle.std.proofs.lemmas.Option.{slice_get_within, slice_get-get_or}
-use Rattle.px_terms.specs.Valuations.{valuation_of, IsPlace, IsBlock, IsUnwritten, HasType, FitsSort, Fits}
-use Rattle.px_terms.specs.Conjuncts.{IsPlain, IsTrueUnder, IsPointerVariable, place_of}
+use Rattle.px_terms.specs.Valuations.{valuation_of, number_of, IsPlace, IsBlock, IsUnwritten, HasType, FitsSort, Fits}
+use Rattle.px_terms.specs.Conjuncts.{IsPlain, IsTrueUnder, IsWellSorted, IsPointerVariable, IsPointerPlace, place_of}
 use Rattle.px_terms.specs.declared.types.TypeId.{TypeId}
 use Rattle.px_terms.specs.declared.types.ValueType.{ValueType}
 use Rattle.px_terms.specs.declared.types.ValueType.TheVariants.{Int, Pointer}
@@ -21,8 +21,9 @@ use Rattle.px_terms.specs.declared.conjuncts.Conj.{Conj}
 use Rattle.px_terms.specs.declared.conjuncts.Conj.TheVariants.{Equal, Unequal, Less, AtMost, SamePlace, OtherPlace, Written, Unwritten, Quotient}
 use Rattle.px_plain.specs.Models.{IsPlainModel, IsLeastModel}
 use Rattle.px_plain.specs.NodeValues.{place_number}
-use Rattle.px_plain.specs.Ties.{number_at, KeepsPlace, KeepsPlaces, IsSamePlace, IsNullPlace, IsSaidUnwritten}
+use Rattle.px_plain.specs.Ties.{number_at, KeepsPlace, KeepsPlaces, IsOnWords, IsSamePlace, IsNullPlace, IsSaidUnwritten}
 use Rattle.px_plain.proofs.Labelled.{pointer_type}
+use Rattle.px_plain.proofs.Lists.{pointer_inside}
 use Rattle.px_plain.proofs.Meanings.{info_of, fits_pointer}
 use Rattle.px_plain.proofs.Placing.{info_at}
 use Rattle.px_solver.specs.Finals.{is_block, own_below, final_value}
@@ -31,6 +32,7 @@ use Rattle.px_solver.proofs.ComponentLemmas.{eq_of}
 use Rattle.px_solver.proofs.FoundWords.{said_unwritten}
 use Rattle.px_terms.proofs.Tests.{never_both}
 use Rattle.px_terms.proofs.Places.{block_is}
+use Rattle.px_terms.proofs.WordLaws.{words_are_signed}
 
 -- ---- one value
 
@@ -85,6 +87,43 @@ sort_final Cell t (value.Block b) w r h = type_final t (value.Block b) w r h
 sort_final Cell t value.Unwritten w r h = tt
 sort_final Input t a w r h = type_final t a w r h
 sort_final Made t a w r h = (type_final t a w r h.0, block_final a w r h.1)
+
+type_small : (t : ValueType) (a : Value) → HasType t a → number_of a < 2 ^ 32
+type_small Int (value.Word z) h = words_are_signed.word_fits z h
+type_small Int value.Null h = absurd h
+type_small Int (value.Block b) h = absurd h
+type_small Int value.Unwritten h = absurd h
+type_small (Pointer i) (value.Word z) h = absurd h
+type_small (Pointer i) value.Null h = omega arith
+type_small (Pointer i) (value.Block b) h = omega arith
+type_small (Pointer i) value.Unwritten h = absurd h
+
+sort_small : (s : Sort) (t : ValueType) (a : Value) → FitsSort s t a → number_of a < 2 ^ 32
+sort_small Given t a h = type_small t a h
+sort_small Cell t (value.Word z) h = type_small t (value.Word z) h
+sort_small Cell t value.Null h = omega arith
+sort_small Cell t (value.Block b) h = omega arith
+sort_small Cell t value.Unwritten h = omega arith
+sort_small Input t a h = type_small t a h
+sort_small Made t a h = type_small t a h.0
+
+final_place : (a : Value) (w : ℕ) (r : ℕ → ℕ) → IsPlace a → IsPlace (final_value w r a) × (final_value w r a ≡ final_value 0 r a)
+final_place (value.Word z) w r h = absurd h
+final_place value.Null w r h = (tt, refl)
+final_place (value.Block b) w r h = (tt, refl)
+final_place value.Unwritten w r h = absurd h
+
+final_unwritten : (a : Value) (w : ℕ) (r : ℕ → ℕ) → IsUnwritten (final_value w r a) → IsUnwritten a
+final_unwritten (value.Word z) w r h = h
+final_unwritten value.Null w r h = h
+final_unwritten (value.Block b) w r h = h
+final_unwritten value.Unwritten w r h = h
+
+unwritten_final : (a : Value) (w : ℕ) (r : ℕ → ℕ) → IsUnwritten a → IsUnwritten (final_value w r a)
+unwritten_final (value.Word z) w r h = h
+unwritten_final value.Null w r h = h
+unwritten_final (value.Block b) w r h = h
+unwritten_final value.Unwritten w r h = h
 
 -- ---- numbers of blocks
 
@@ -149,6 +188,9 @@ module _ (vars : List VarInfo) (cs : List Conj) (model : List Value) (pm : IsPla
 
   info : (x : ℕ) → x < length vars → slice_get vars x ≡ Some (info_at vars x)
   info x l = slice_get-get_or vars x (record { sort = Given; value = Int }) l
+
+  pub small_number : (x : ℕ) → x < length vars → number_of (v x) < 2 ^ 32
+  small_number x l = sort_small (info_at vars x).sort (info_at vars x).value (v x) (pm.fits.sorts x (info_at vars x) (info x l))
 
   pub own_block : (x b : ℕ) → x < length vars → v x ≡ value.Block b → (v b ≡ value.Block b) × (b < length vars)
   own_block x b l e = (same_block x b b (lm.block x b l e) e, (let h = lm.least x b l e in omega arith))
@@ -246,3 +288,62 @@ module _ (vars : List VarInfo) (cs : List Conj) (model : List Value) (pm : IsPla
         let r = same_final x y b b (slice_get_within vars x i g) (slice_get_within vars y j h) e f refl in
         pm.fits.types x y i j s t r.0 g h p q r.1 r.2;
   }
+
+  -- ---- what isn't on words stays true
+
+  final_of : (a : Place) → IsPointerPlace vars a → IsPlace (place_of (valuation_of model) a) → IsPlace (place_of (valuation_of vs) a) × (place_of (valuation_of vs) a ≡ final_value 0 (own_below model) (place_of (valuation_of model) a))
+  final_of place.Null h p = (tt, refl)
+  final_of (place.Var x) h p =
+      let b = pointer_inside vars x.0 h in
+      let q = final_place (valuation_of model x.0) (w x.0) (own_below model) p in
+      (subst IsPlace (sym (values x.0 b)) q.0, values x.0 b ∙ q.1)
+
+  own_of : (a : Place) (n : ℕ) → IsPointerPlace vars a → place_of (valuation_of model) a ≡ value.Block n → valuation_of model n ≡ value.Block n
+  own_of place.Null n h e = absurd (cc)
+  own_of (place.Var x) n h e = (own_block vars cs model pm lm x.0 n (pointer_inside vars x.0 h) e).0
+
+  block_same : (r : ℕ → ℕ) (m n : ℕ) → final_value 0 r (value.Block m) ≡ final_value 0 r (value.Block n) → r m ≡ r n
+  block_same r m n e = let q = succ (r m + 1) (r n + 1) e in omega arith
+    where
+      succ : (a b : ℕ) → value.Block a ≡ value.Block b → a ≡ b
+      succ a b e = cc
+
+  same_place : (a b : Place) → IsPointerPlace vars a → IsPointerPlace vars b → IsPlace (place_of (valuation_of model) a) → IsPlace (place_of (valuation_of model) b) →
+      final_value 0 (own_below model) (place_of (valuation_of model) a) ≡ final_value 0 (own_below model) (place_of (valuation_of model) b) → place_of (valuation_of model) a ≡ place_of (valuation_of model) b
+  same_place a b ha hb pa pb e = elim (place_cases (place_of (valuation_of model) a) pa) [
+    | inl x ↦ elim (place_cases (place_of (valuation_of model) b) pb) [
+      | inl y ↦ x ∙ sym y
+      | inr (n, y) ↦ absurd (mixed (own_below model n + 1) (sym (ap (final_value 0 (own_below model)) x) ∙ e ∙ ap (final_value 0 (own_below model)) y))
+    ]
+    | inr (m, x) ↦ elim (place_cases (place_of (valuation_of model) b) pb) [
+      | inl y ↦ absurd (mixed (own_below model m + 1) (sym (ap (final_value 0 (own_below model)) y) ∙ sym e ∙ ap (final_value 0 (own_below model)) x))
+      | inr (n, y) ↦
+          let q = block_same (own_below model) m n (sym (ap (final_value 0 (own_below model)) x) ∙ e ∙ ap (final_value 0 (own_below model)) y) in
+          x ∙ ap value.Block (own_same model m n (own_of a m ha x) (own_of b n hb y) q) ∙ sym y
+    ]
+  ]
+    where
+      mixed : (k : ℕ) → value.Null ≡ value.Block k → ⊥
+      mixed k e = cc
+
+  pub true_elsewhere : (c : Conj) → ¬ IsOnWords c → IsWellSorted vars c → (IsPlain c → IsTrueUnder (valuation_of model) c) → IsTrueUnder (valuation_of vs) c
+  true_elsewhere (Equal p) n h m = absurd (n tt)
+  true_elsewhere (Unequal p) n h m = absurd (n tt)
+  true_elsewhere (Less p q) n h m = absurd (n tt)
+  true_elsewhere (AtMost p q) n h m = absurd (n tt)
+  true_elsewhere (SamePlace x y) n h m =
+      let u = m tt in
+      let p = final_of x h.0 u.0.0 in
+      let q = final_of y h.1 u.0.1 in
+      ((p.0, q.0), p.1 ∙ ap (final_value 0 (own_below model)) u.1 ∙ sym q.1)
+  true_elsewhere (OtherPlace x y) n h m =
+      let u = m tt in
+      let p = final_of x h.0 u.0.0 in
+      let q = final_of y h.1 u.0.1 in
+      ((p.0, q.0), λ z. u.1 (same_place x y h.0 h.1 u.0.0 u.0.1 (sym p.1 ∙ z ∙ q.1)))
+  true_elsewhere (Written x) n h m = λ z. m tt (final_unwritten (valuation_of model x.0) (w x.0) (own_below model) (subst IsUnwritten (values x.0 h) z))
+  true_elsewhere (Unwritten x) n h m = subst IsUnwritten (sym (values x.0 h)) (unwritten_final (valuation_of model x.0) (w x.0) (own_below model) (m tt))
+  true_elsewhere (Quotient x p q) n h m = absurd (n tt)
+
+  pub stays_unwritten : (x : ℕ) → x < length vars → IsSaidUnwritten cs x → IsUnwritten (valuation_of vs x)
+  stays_unwritten x b said = subst IsUnwritten (sym (values x b)) (unwritten_final (valuation_of model x) (w x) (own_below model) (said_unwritten vars cs model pm x said))

@@ -37,8 +37,8 @@ use Rattle.px_solver.specs.Finals.{AreRoots, own_below, final_value}
 use Rattle.px_solver.specs.Models.{IsModel}
 use Rattle.px_solver.specs.Searches.{AllSolved}
 use Rattle.px_solver.proofs.ComponentLemmas.{touched_inside_root, parent_not_null, home_here}
-use Rattle.px_solver.proofs.FoundPlaces.{place_cases, own_block, own_same, has_place, fits}
-use Rattle.px_solver.proofs.FoundWords.{final_word, said_unwritten, value_is, int_word, word_mentioned, alike, keep, searched, least}
+use Rattle.px_solver.proofs.FoundPlaces.{has_place, fits, true_elsewhere, stays_unwritten}
+use Rattle.px_solver.proofs.FoundWords.{final_word, value_is, int_word, word_mentioned, alike, keep, searched, least}
 use Rattle.px_solver.proofs.OpenLemmas.{component_of_mark, fixed_at}
 use Rattle.px_solver.proofs.PlaceLemmas.{places_all}
 use Rattle.px_solver.proofs.SearchLemmas.{contains_cases}
@@ -66,7 +66,7 @@ stable w (Written x) n = tt
 stable w (Unwritten x) n = tt
 stable w (Quotient x p q) n = (λ e. n (λ t. t.0 e), elim (cases_eq (w x.0 % 2 ^ 32) (word_quotient (value_of w p) (value_of w q))) [ inl e ↦ e | inr d ↦ absurd (n (λ t. d t.1)) ])
 
-of_words : (v : ℕ → Value) (c : Conj) → IsTrueUnder v c → IsTrueOf (numbers_of v) c
+pub of_words : (v : ℕ → Value) (c : Conj) → IsTrueUnder v c → IsTrueOf (numbers_of v) c
 of_words v (Equal p) h = h.1
 of_words v (Unequal p) h = h.1
 of_words v (Less p q) h = h.2
@@ -77,7 +77,7 @@ of_words v (Written x) h = tt
 of_words v (Unwritten x) h = tt
 of_words v (Quotient x p q) h = h.3
 
-to_words : (v : ℕ → Value) (c : Conj) → IsOnWords c → All (λ x. IsWord (v x)) (mentioned c) → IsTrueOf (numbers_of v) c → IsTrueUnder v c
+pub to_words : (v : ℕ → Value) (c : Conj) → IsOnWords c → All (λ x. IsWord (v x)) (mentioned c) → IsTrueOf (numbers_of v) c → IsTrueUnder v c
 to_words v (Equal p) w a h = (a, h)
 to_words v (Unequal p) w a h = (a, h)
 to_words v (Less p q) w a h = (All-left (λ x. IsWord (v x)) (variables_of p) (variables_of q) a, All-right (λ x. IsWord (v x)) (variables_of p) (variables_of q) a, h)
@@ -89,24 +89,6 @@ to_words v (Unwritten x) w a h = absurd w
 to_words v (Quotient x p q) w a h =
     let rest = All-tail (λ x. IsWord (v x)) x.0 (variables_of p ++ variables_of q) a in
     (All-head (λ x. IsWord (v x)) x.0 (variables_of p ++ variables_of q) a, All-left (λ x. IsWord (v x)) (variables_of p) (variables_of q) rest, All-right (λ x. IsWord (v x)) (variables_of p) (variables_of q) rest, h)
-
-final_place : (a : Value) (w : ℕ) (r : ℕ → ℕ) → IsPlace a → IsPlace (final_value w r a) × (final_value w r a ≡ final_value 0 r a)
-final_place (value.Word z) w r h = absurd h
-final_place value.Null w r h = (tt, refl)
-final_place (value.Block b) w r h = (tt, refl)
-final_place value.Unwritten w r h = absurd h
-
-final_unwritten : (a : Value) (w : ℕ) (r : ℕ → ℕ) → IsUnwritten (final_value w r a) → IsUnwritten a
-final_unwritten (value.Word z) w r h = h
-final_unwritten value.Null w r h = h
-final_unwritten (value.Block b) w r h = h
-final_unwritten value.Unwritten w r h = h
-
-unwritten_final : (a : Value) (w : ℕ) (r : ℕ → ℕ) → IsUnwritten a → IsUnwritten (final_value w r a)
-unwritten_final (value.Word z) w r h = h
-unwritten_final value.Null w r h = h
-unwritten_final (value.Block b) w r h = h
-unwritten_final value.Unwritten w r h = h
 
 same_given : (g h : ℕ → ℕ) (values rs ks : List ℕ) → GivesRoots g values rs ks → GivesRoots h values rs ks → (v : ℕ) → Contains rs v → g v ≡ h v
 same_given g h values [] ks a b v (i, l, e) = absurd (omega arith)
@@ -253,60 +235,18 @@ module _ (vars : List VarInfo) (cs : List Conj) (sorted : AreWellSorted vars cs)
         subst IsWord (sym (values_are x (omega arith))) (final_word (valuation_of model x) (under x % 2 ^ 32) (own_below model) h))
         (true_alike under (numbers_of final_at) c (alike vars cs sorted t f size inside small some model pm lm l j flat homes nodes hm none_false old ar vs s i c b e w) (words_true w))
 
-  -- ---- places
-
-  final_of : (a : Place) → IsPointerPlace vars a → IsPlace (place_of (valuation_of model) a) → IsPlace (place_of final_at a) × (place_of final_at a ≡ final_value 0 (own_below model) (place_of (valuation_of model) a))
-  final_of place.Null h p = (tt, refl)
-  final_of (place.Var x) h p =
-      let b = pointer_inside vars x.0 h in
-      let q = final_place (valuation_of model x.0) (under x.0 % 2 ^ 32) (own_below model) p in
-      (subst IsPlace (sym (values_are x.0 b)) q.0, values_are x.0 b ∙ q.1)
-
-  own_of : (a : Place) (n : ℕ) → IsPointerPlace vars a → place_of (valuation_of model) a ≡ value.Block n → valuation_of model n ≡ value.Block n
-  own_of place.Null n h e = absurd (cc)
-  own_of (place.Var x) n h e = (own_block vars cs model pm lm x.0 n (pointer_inside vars x.0 h) e).0
-
-  block_same : (r : ℕ → ℕ) (m n : ℕ) → final_value 0 r (value.Block m) ≡ final_value 0 r (value.Block n) → r m ≡ r n
-  block_same r m n e = let q = succ (r m + 1) (r n + 1) e in omega arith
-    where
-      succ : (a b : ℕ) → value.Block a ≡ value.Block b → a ≡ b
-      succ a b e = cc
-
-  same_place : (a b : Place) → IsPointerPlace vars a → IsPointerPlace vars b → IsPlace (place_of (valuation_of model) a) → IsPlace (place_of (valuation_of model) b) →
-      final_value 0 (own_below model) (place_of (valuation_of model) a) ≡ final_value 0 (own_below model) (place_of (valuation_of model) b) → place_of (valuation_of model) a ≡ place_of (valuation_of model) b
-  same_place a b ha hb pa pb e = elim (place_cases (place_of (valuation_of model) a) pa) [
-    | inl x ↦ elim (place_cases (place_of (valuation_of model) b) pb) [
-      | inl y ↦ x ∙ sym y
-      | inr (n, y) ↦ absurd (mixed (own_below model n + 1) (sym (ap (final_value 0 (own_below model)) x) ∙ e ∙ ap (final_value 0 (own_below model)) y))
-    ]
-    | inr (m, x) ↦ elim (place_cases (place_of (valuation_of model) b) pb) [
-      | inl y ↦ absurd (mixed (own_below model m + 1) (sym (ap (final_value 0 (own_below model)) y) ∙ sym e ∙ ap (final_value 0 (own_below model)) x))
-      | inr (n, y) ↦
-          let q = block_same (own_below model) m n (sym (ap (final_value 0 (own_below model)) x) ∙ e ∙ ap (final_value 0 (own_below model)) y) in
-          x ∙ ap value.Block (own_same model m n (own_of a m ha x) (own_of b n hb y) q) ∙ sym y
-    ]
-  ]
-    where
-      mixed : (k : ℕ) → value.Null ≡ value.Block k → ⊥
-      mixed k e = cc
+  elsewhere : (c : Conj) → ¬ IsOnWords c → IsWellSorted vars c → (IsPlain c → IsTrueUnder (valuation_of model) c) → IsTrueUnder final_at c
+  elsewhere = true_elsewhere vars cs model pm lm vs (λ x. under x % 2 ^ 32) values_are
 
   true_one : (i : ℕ) (c : Conj) → i < length cs → get_or cs i c ≡ c → IsWellSorted vars c → (IsPlain c → IsTrueUnder (valuation_of model) c) → IsTrueUnder final_at c
   true_one i (Equal p) b e h m = on_words_true i (Equal p) b e tt
   true_one i (Unequal p) b e h m = on_words_true i (Unequal p) b e tt
   true_one i (Less p q) b e h m = on_words_true i (Less p q) b e tt
   true_one i (AtMost p q) b e h m = on_words_true i (AtMost p q) b e tt
-  true_one i (SamePlace x y) b e h m =
-      let u = m tt in
-      let p = final_of x h.0 u.0.0 in
-      let q = final_of y h.1 u.0.1 in
-      ((p.0, q.0), p.1 ∙ ap (final_value 0 (own_below model)) u.1 ∙ sym q.1)
-  true_one i (OtherPlace x y) b e h m =
-      let u = m tt in
-      let p = final_of x h.0 u.0.0 in
-      let q = final_of y h.1 u.0.1 in
-      ((p.0, q.0), λ z. u.1 (same_place x y h.0 h.1 u.0.0 u.0.1 (sym p.1 ∙ z ∙ q.1)))
-  true_one i (Written x) b e h m = λ z. m tt (final_unwritten (valuation_of model x.0) (under x.0 % 2 ^ 32) (own_below model) (subst IsUnwritten (values_are x.0 h) z))
-  true_one i (Unwritten x) b e h m = subst IsUnwritten (sym (values_are x.0 h)) (unwritten_final (valuation_of model x.0) (under x.0 % 2 ^ 32) (own_below model) (m tt))
+  true_one i (SamePlace x y) b e h m = elsewhere (SamePlace x y) (λ z. z) h m
+  true_one i (OtherPlace x y) b e h m = elsewhere (OtherPlace x y) (λ z. z) h m
+  true_one i (Written x) b e h m = elsewhere (Written x) (λ z. z) h m
+  true_one i (Unwritten x) b e h m = elsewhere (Unwritten x) (λ z. z) h m
   true_one i (Quotient x p q) b e h m = on_words_true i (Quotient x p q) b e tt
 
   pub all_true : All (IsTrueUnder (valuation_of vs)) cs
@@ -318,7 +258,7 @@ module _ (vars : List VarInfo) (cs : List Conj) (sorted : AreWellSorted vars cs)
   pub is_model : IsModel vars cs vs
   is_model = record {
     size = s.final.size ∙ pm.size;
-    unwritten = λ x b said. subst IsUnwritten (sym (values_are x b)) (unwritten_final (valuation_of model x) (under x % 2 ^ 32) (own_below model) (said_unwritten vars cs model pm x said));
+    unwritten = stays_unwritten vars cs model pm lm vs (λ x. under x % 2 ^ 32) values_are;
     words = λ x h n. subst IsWord (sym (values_are x (int_below vars x h))) (final_word (valuation_of model x) (under x % 2 ^ 32) (own_below model)
         (int_word vars cs sorted t f size inside small some model pm lm l j flat homes nodes hm none_false old ar vs s x h n));
     places = λ x h n. has_place vars cs model pm lm vs (λ x. under x % 2 ^ 32) values_are x h n (pointer_inside vars x h);

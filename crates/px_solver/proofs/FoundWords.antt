@@ -78,6 +78,13 @@ said_unwritten vars cs model m x (k, c, l, e, s) = one c s (subst (λ (d : Conj)
     one (Unwritten y) s h = subst (λ z. IsUnwritten (valuation_of model z)) s (h tt)
     one (Quotient x p q) s h = absurd s
 
+-- a model's value is a word where an int isn't said to be unwritten
+pub model_word : (vars : List VarInfo) (cs : List Conj) (model : List Value) → IsPlainModel vars cs model → IsLeastModel vars cs model → (x : ℕ) → IsIntVariable vars x → ¬ IsSaidUnwritten cs x → IsWord (valuation_of model x)
+model_word vars cs model pm lm x h n =
+    let i = info_of (λ (i : VarInfo). i.value ≡ Int) (slice_get vars x) h in
+    let b = int_below vars x h in
+    fits_int i.0.sort (valuation_of model x) (subst (λ t. FitsSort i.0.sort t (valuation_of model x)) i.2 (pm.fits.sorts x i.0 i.1)) (λ u. n (lm.unwritten x b u))
+
 -- the variables of a conjunct on words are ints
 pub mentions_ints : (vars : List VarInfo) (c : Conj) → IsWellSorted vars c → IsOnWords c → All (IsIntVariable vars) (mentioned c)
 mentions_ints vars (Equal p) h w = h
@@ -91,7 +98,7 @@ mentions_ints vars (Unwritten x) h w = absurd w
 mentions_ints vars (Quotient x p q) h w = All-cons (IsIntVariable vars) x.0 (variables_of p ++ variables_of q) h.0 (All-append (IsIntVariable vars) (variables_of p) (variables_of q) h.1 h.2)
 
 -- a true conjunct on words has words
-has_words : (v : ℕ → Value) (c : Conj) → IsOnWords c → IsTrueUnder v c → All (λ x. IsWord (v x)) (mentioned c)
+pub has_words : (v : ℕ → Value) (c : Conj) → IsOnWords c → IsTrueUnder v c → All (λ x. IsWord (v x)) (mentioned c)
 has_words v (Equal p) w h = h.0
 has_words v (Unequal p) w h = h.0
 has_words v (Less p q) w h = All-append (λ x. IsWord (v x)) (variables_of p) (variables_of q) h.0 h.1
@@ -153,10 +160,7 @@ module _ (vars : List VarInfo) (cs : List Conj) (sorted : AreWellSorted vars cs)
       )
 
   pub int_word : (x : ℕ) → IsIntVariable vars x → ¬ IsSaidUnwritten cs x → IsWord (valuation_of model x)
-  int_word x h n =
-      let i = info_of (λ (i : VarInfo). i.value ≡ Int) (slice_get vars x) h in
-      let b = int_below vars x h in
-      fits_int i.0.sort (valuation_of model x) (subst (λ t. FitsSort i.0.sort t (valuation_of model x)) i.2 (pm.fits.sorts x i.0 i.1)) (λ u. n (lm.unwritten x b u))
+  int_word = model_word vars cs model pm lm
 
   pub word_mentioned : (i : ℕ) (c : Conj) → i < length cs → get_or cs i c ≡ c → IsOnWords c → (k d : ℕ) → k < length (mentioned c) → IsWord (valuation_of model (get_or (mentioned c) k d))
   word_mentioned i c b e w k d y =

@@ -18,6 +18,7 @@ pub mod OpenLemmas
 pub mod FoundWords
 pub mod FoundPlaces
 pub mod FoundTruth
+pub mod PlainlyFound
 pub mod DecideLemmas
 pub mod RuleLemmas
 pub mod Once

@@ -36,3 +36,8 @@ final_value word rank Unwritten = Unwritten
 pub record AreFinal (model : List Value) (t : List Node) (roots : List ℕ) (vs : List Value) : Type 0 where
   pub size : length vs ≡ length model
   pub each : (x : ℕ) → x < length model → valuation_of vs x ≡ final_value (word_under t (slice_index roots) x % 2 ^ 32) (own_below model) (valuation_of model x)
+
+-- the values are those of the model, with its blocks numbered from 1
+pub record AreNumbered (model vs : List Value) : Type 0 where
+  pub size : length vs ≡ length model
+  pub each : (x : ℕ) → x < length model → valuation_of vs x ≡ final_value (number_of (valuation_of model x)) (own_below model) (valuation_of model x)

@@ -4,7 +4,7 @@ ghost use Rattle.px_terms.specs.declared.types.Value.{Value as ValueOf};
 ghost use Rattle.px_terms.specs.declared.types.Value.TheVariants.{Block};
 ghost use Rattle.px_plain.specs.Forest.{IsForest};
 ghost use Rattle.px_solver.specs.Finals as spec;
-ghost use Rattle.px_solver.specs.Finals.{AreRoots, own_below, AreFinal};
+ghost use Rattle.px_solver.specs.Finals.{AreRoots, own_below, AreFinal, AreNumbered};
 
 use crate::truth::word_at;
 use px_plain::Node;
@@ -78,6 +78,20 @@ fn final_value(value: Value, word: u32, ranks: &[u32]) -> Value
         Value::Block(b) => Value::Block(ranks[b as usize] + 1),
         other => other,
     }
+}
+
+// The model with its blocks numbered from 1.
+pub(crate) fn numbered(alloc: Global, model: &[Value]) -> Result<Vec<Value>, AllocError>
+    requires few { length model.now ≤ 65536 }
+    requires blocks { (x b : ℕ) → x < length model.now → valuation_of model.now x ≡ Block b → b ≤ x }
+    ensures { IfOk result (λ vs. AreNumbered model.now vs.items) }
+{
+    let ranks = ranks_of(alloc, model)?;
+    let mut values = Vec::new(alloc);
+    for x in 0..model.len() {
+        values.push(final_value(model[x], word_of(model[x]), &ranks))?;
+    }
+    Ok(values)
 }
 
 // The model with the words of the roots, and its blocks numbered from 1.

@@ -135,3 +135,16 @@ pub(crate) fn is_false_outright(
     }
     mentions_marked(conjunct, marks) || (home == 0 && !is_true(conjunct, table, roots))
 }
+
+// Whether all conjuncts are plain.
+pub(crate) fn are_plain(conjuncts: &[Conj]) -> bool
+    requires { All HasSmallVariables conjuncts.now }
+    ensures { result ≡ true ↔ All IsPlain conjuncts.now }
+{
+    for i in 0..conjuncts.len() {
+        if !is_plain(&conjuncts[i]) {
+            return false;
+        }
+    }
+    true
+}

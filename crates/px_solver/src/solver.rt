@@ -8,10 +8,10 @@ ghost use Rattle.px_plain.specs.Readings.{word_differences};
 ghost use Rattle.px_solver.specs.Decisions.{IsRefuted, IsDecided, IsOpen};
 
 use crate::choosing::false_outright;
-use crate::decision::Decision;
+use crate::decision::{Decision, Values};
 use crate::layout::layout_of;
-use crate::model::roots_of;
-use crate::outright::mark_said;
+use crate::model::{numbered, roots_of};
+use crate::outright::{are_plain, mark_said};
 use crate::searching::search_all;
 use px_plain::{Node, Plain, sat, word_classes};
 use px_terms::{Conj, Domain, NoMemory, Value, VarInfo, some_refutes};
@@ -61,10 +61,7 @@ pub fn decide(
     if some_refutes(vars, conjuncts, domains)? {
         return Ok(Decision::Refuted);
     }
-    let Some(table) = word_classes(alloc, vars, conjuncts)? else {
-        return Ok(Decision::Refuted);
-    };
-    decide_open(alloc, vars, conjuncts, model.as_slice(), &table)
+    decide_from(alloc, vars, conjuncts, model.as_slice())
 }
 
 /// Decides a list of conjuncts that isn't refuted, as `decide` does, and asks no domain.
@@ -76,10 +73,29 @@ pub fn found(alloc: Global, vars: &[VarInfo], conjuncts: &[Conj]) -> Result<Deci
     let Plain::Model(model) = sat(alloc, vars, conjuncts)? else {
         return Ok(Decision::Refuted);
     };
+    decide_from(alloc, vars, conjuncts, model.as_slice())
+}
+
+// Decides a list of conjuncts that isn't refuted, from its plain model. Where all are plain, it is that model.
+fn decide_from(
+    alloc: Global,
+    vars: &[VarInfo],
+    conjuncts: &[Conj],
+    model: &[Value],
+) -> Result<Decision, NoMemory>
+    requires sorted { AreWellSorted vars.now conjuncts.now }
+    requires plain { IsPlainModel vars.now conjuncts.now model.now }
+    requires least { IsLeastModel vars.now conjuncts.now model.now }
+    ensures { IfOk result (λ d. IsOpen vars.now conjuncts.now d) }
+{
+    if are_plain(conjuncts) {
+        let values = numbered(alloc, model)?;
+        return Ok(Decision::Found(Values::from_vec(values)));
+    }
     let Some(table) = word_classes(alloc, vars, conjuncts)? else {
         return Ok(Decision::Refuted);
     };
-    decide_open(alloc, vars, conjuncts, model.as_slice(), &table)
+    decide_open(alloc, vars, conjuncts, model, &table)
 }
 
 // Decides a list of conjuncts that isn't refuted, from its plain model and the classes of its words.

@@ -6,7 +6,7 @@ use Rattle.px_calls.proofs.assuming.assume_all.Goals as goal
 pub loop-conjunct-init : goal.loop-conjunct-init
 loop-conjunct-init c = (
   none_assumed c.args.vars.now c.args.pure.now c.args.substitution.now _ refl refl c.new.ensures,
-  c.new-keys.ensures.items ∙ ap (map key_of) (sym c.new.ensures),
+  c.new-keys.ensures ∙ ap (map key_of) (sym c.new.ensures),
 )
 
 pub loop-conjunct-preserved : goal.loop-conjunct-preserved
