@@ -51,8 +51,10 @@ enum Listed {
 fn next_ways(alloc: Global, job: &Job, walk: &Walk) -> Result<Listed, NoMemory>
     ensures { IfOk result (λ l. AreListed (spec.ways (job_tree job.now) (walk_of walk.now)) l) }
 {
-    if goes_on(job, walk) {
-        return Ok(Listed::One(Way::On));
+    match goes_on(job, walk) {
+        Some(true) => return Ok(Listed::One(Way::On)),
+        Some(false) => return Ok(Listed::Nothing),
+        None => {}
     }
     let all = ways(alloc, job, walk)?;
     match all.as_slice() {

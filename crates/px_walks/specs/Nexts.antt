@@ -1,8 +1,9 @@
 -- What comes next of what is still to be done, and where jumps go.
 use Rattle.std.specs.Prelude.{◌≡◌, List, [], ◌∷◌, Option, Some, None, Bool, true, false}
 use Rattle.px_core.specs.CommandTree.{command_tree}
-use Rattle.px_core.specs.Control.{Item, Act, leave_to, break_to, continue_to}
+use Rattle.px_core.specs.Control.{Item, Act, AfterHead, AfterBody, AfterStep, leave_to, break_to, continue_to}
 use Rattle.px_core.specs.WellFormed.{Where, Outside, InHead, InBody, InStep}
+use Rattle.px_ways.specs.Ways as ways
 use Rattle.px_walks.specs.declared.pieces.Part.{Part}
 use Rattle.px_walks.specs.declared.pieces.Part.TheVariants.{Head, Body, Step}
 use Rattle.px_walks.specs.declared.pieces.OpenLoop.{OpenLoop}
@@ -21,6 +22,14 @@ abbrev pub items_from : Upcoming → List Item → List Item
 items_from Nothing rest = []
 items_from (Command c) rest = Act (command_tree c.now) ∷ rest
 items_from (End part l) rest = end_of part (turns_of l) ∷ rest
+
+-- what is first to be done has the way `On` at most, as the end of a part has, and that of the body
+abbrev pub only_goes_on : List Item → Bool
+only_goes_on [] = true
+only_goes_on (Act c ∷ k) = ways.only_goes_on c
+only_goes_on (AfterHead l ∷ k) = true
+only_goes_on (AfterBody l ∷ k) = true
+only_goes_on (AfterStep l ∷ k) = true
 
 -- the part of the innermost loop
 abbrev pub place_of : Option Part → Where

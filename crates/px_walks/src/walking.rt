@@ -1,9 +1,10 @@
-ghost use Rattle.std.specs.Prelude.{◌≡◌, true, [], ◌∷◌, ◌<◌, ◌^◌, is_some, length, List, IfOk, option_map};
+ghost use Rattle.std.specs.Prelude.{◌≡◌, ◌&&◌, [], ◌∷◌, ◌<◌, ◌^◌, is_some, is_none, length, List, IfOk, IfSome, option_map};
 ghost use Rattle.px_core.specs.CommandTree.{command_tree};
 ghost use Rattle.px_core.specs.Control.{Item, Act, AfterHead, acts};
 ghost use Rattle.px_callgraph.specs.JobTree.{job_tree};
 ghost use Rattle.px_callgraph.specs.Alternatives as spec;
 ghost use Rattle.px_callgraph.specs.Alternatives.{at, fallen, item_act};
+ghost use Rattle.px_callgraph.specs.Accesses.{listed_if};
 ghost use Rattle.px_callgraph.specs.Derivations as derivations;
 ghost use Rattle.px_callgraph.specs.declared.states.Way.TheVariants as variant;
 ghost use Rattle.px_ways.specs.Listed.{lists};
@@ -12,7 +13,7 @@ ghost use Rattle.px_callgraph.specs.Alternatives.{after_command};
 ghost use Rattle.px_calls.specs.Calls.{call_of, called, with_call};
 ghost use Rattle.px_calls.specs.Progress.{progress_at};
 ghost use Rattle.px_walks.specs.Items.{turns_of, part_of, end_of, items_of};
-ghost use Rattle.px_walks.specs.Nexts.{IsNext};
+ghost use Rattle.px_walks.specs.Nexts.{IsNext, only_goes_on};
 ghost use Rattle.px_walks.specs.Few.{IfGoes, IsFewLeft};
 ghost use Rattle.px_walks.specs.Walks.{walk_of, leads_of, at_walk, call_in};
 
@@ -131,23 +132,31 @@ pub fn ways(alloc: Global, job: &Job, walk: &Walk) -> Result<Vec<Way>, NoMemory>
     }
 }
 
-// Whether `On` is the one way on from what is to be done next.
-fn goes_on_from<'a>(job: &Job, state: &State, control: &[Piece<'a>]) -> bool
-    ensures { result ≡ true → spec.item_ways (job_tree job.now) state.now (items_of control.now) ≡ variant.On ∷ [] }
+// Whether a path goes on by what is to be done next, where that has the way `On` at most; none of any other. No list is made.
+fn goes_on_from<'a>(job: &Job, state: &State, control: &[Piece<'a>]) -> Option<bool>
+    ensures seen { is_some result ≡ only_goes_on (items_of control.now) }
+    ensures listed { IfSome result (λ yes. spec.item_ways (job_tree job.now) state.now (items_of control.now) ≡ listed_if yes variant.On) }
 {
     let Upcoming::Command(command) = next(control) else {
-        return true;
+        return Some(true);
     };
-    is_in_place(command, control) && matches!(px_ways::goes_on(job, state, command), Some(true))
+    match px_ways::goes_on(job, state, command) {
+        Some(yes) => Some(yes && is_in_place(command, control)),
+        None => None,
+    }
 }
 
-/// Whether it is seen without a list that a path has the one way `On`, as it has at most of what is done. Not so within
-/// a call.
+/// Whether a path goes on where what is to be done next has the way `On` at most; none elsewhere, as within a call. No list
+/// is made.
 #[tactic(auto, unfolding(px_callgraph::specs::Alternatives::ways))]
-pub fn goes_on(job: &Job, walk: &Walk) -> bool
-    ensures { result ≡ true → spec.ways (job_tree job.now) (walk_of walk.now) ≡ variant.On ∷ [] }
+pub fn goes_on(job: &Job, walk: &Walk) -> Option<bool>
+    ensures seen { is_some result ≡ (is_none (walk_of walk.now).call && only_goes_on (walk_of walk.now).control) }
+    ensures listed { IfSome result (λ yes. spec.ways (job_tree job.now) (walk_of walk.now) ≡ listed_if yes variant.On) }
 {
-    walk.call.is_none() && goes_on_from(job, &walk.state, &walk.control)
+    match &walk.call {
+        None => goes_on_from(job, &walk.state, &walk.control),
+        Some(_) => None,
+    }
 }
 
 // Whether a way is listed of what is to be done next.

@@ -1,4 +1,4 @@
-ghost use Rattle.std.specs.Prelude.{◌≡◌, ◌&&◌, [], ◌∷◌, slice_get, nat_eq, IfOk};
+ghost use Rattle.std.specs.Prelude.{◌≡◌, ◌&&◌, false, [], ◌∷◌, slice_get, nat_eq, IfOk};
 ghost use Rattle.std.specs.Option.{option_copied};
 ghost use Rattle.px_core.specs.CommandTree.{command_tree};
 ghost use Rattle.px_entry.specs.Sorts.{is_some_and};
@@ -10,17 +10,14 @@ ghost use Rattle.px_callgraph.specs.Accesses.{listed_if};
 ghost use Rattle.px_callgraph.specs.Accesses as accesses;
 ghost use Rattle.px_callgraph.specs.Commands as spec;
 ghost use Rattle.px_callgraph.specs.declared.states.Way.TheVariants as variant;
-ghost use Rattle.px_ways.specs.Ways.{or_unwritten, test_listed};
+ghost use Rattle.px_ways.specs.Ways.{or_unwritten, test_listed, only_goes_on};
 ghost use Rattle.px_ways.specs.Listed.{lists};
 ghost use Rattle.px_ways.specs.Listed as listed;
 
 use crate::contents::slot_content;
 use crate::divisions::may_divide;
 use crate::pointers::{accessed, may_be_block};
-use crate::ways::{
-    are_arguments, fits_field, has_outcome, is_field, is_in_loop, is_operation, is_type,
-    may_be_false, may_be_true, returns,
-};
+use crate::ways::{fits_field, goes_on, is_field, is_type, may_be_false, may_be_true};
 use px_callgraph::{Job, State, Way};
 use px_core::{Command, Comparison, Operand};
 use px_entry::Atom;
@@ -29,7 +26,6 @@ use px_terms::{BlockType, Content, NoMemory, Place, Poly, TypeId, Var, VarInfo};
 use std::alloc::Global;
 
 /// Whether a way is listed of a command at a state. The others aren't looked at, and no list is made.
-#[tactic(auto, using(px_core::proofs::CommandEquations::trees))]
 pub fn is_listed(
     alloc: Global,
     job: &Job,
@@ -39,23 +35,32 @@ pub fn is_listed(
 ) -> Result<bool, NoMemory>
     ensures { IfOk result (λ yes. yes ≡ lists (spec.command_ways (job_tree job.now) state.now (command_tree command.now)) way) }
 {
+    match goes_on(job, state, command) {
+        Some(yes) => Ok(is_on(way, yes)),
+        None => is_branch(alloc, job, state, command, way),
+    }
+}
+
+// The same of a command that may have other ways than `On`.
+#[tactic(auto, using(px_core::proofs::CommandEquations::trees))]
+fn is_branch(
+    alloc: Global,
+    job: &Job,
+    state: &State,
+    command: &Command,
+    way: Way,
+) -> Result<bool, NoMemory>
+    requires { only_goes_on (command_tree command.now) ≡ false }
+    ensures { IfOk result (λ yes. yes ≡ lists (spec.command_ways (job_tree job.now) state.now (command_tree command.now)) way) }
+{
     let types = job.types.as_slice();
     match command {
-        Command::Assign { op, a, b, .. } => Ok(is_on(way, is_operation(state, *op, *a, *b))),
-        Command::Unset { .. } | Command::Loop { .. } | Command::Input { .. } => {
-            Ok(is_on(way, true))
-        }
         Command::Read { slot, .. } => Ok(is_read(
             state.vars.as_slice(),
             slot_content(state.slots.as_slice(), *slot),
             way,
         )),
         Command::Test { how, a, b, .. } => is_outcome(alloc, state, *how, a, b, way),
-        Command::If { slot, .. } => Ok(is_on(
-            way,
-            has_outcome(slot_content(state.slots.as_slice(), *slot)),
-        )),
-        Command::Leave | Command::Break | Command::Continue => Ok(is_on(way, is_in_loop(state))),
         Command::Load {
             at,
             field,
@@ -83,10 +88,18 @@ pub fn is_listed(
             is_type(types, *block),
             way,
         )),
-        Command::Call { arguments, .. } => Ok(is_on(way, are_arguments(state, arguments))),
-        Command::Return { from } => Ok(is_on(way, returns(state, job.body.result, *from))),
         Command::Stop { .. } => Ok(is_drop(way)),
         Command::Divide { a, b, .. } => is_quotient_way(alloc, state, a, b, way),
+        Command::Assign { .. }
+        | Command::Unset { .. }
+        | Command::If { .. }
+        | Command::Loop { .. }
+        | Command::Leave
+        | Command::Input { .. }
+        | Command::Call { .. }
+        | Command::Return { .. }
+        | Command::Break
+        | Command::Continue => unreachable!(),
     }
 }
 

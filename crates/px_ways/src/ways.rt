@@ -1,4 +1,4 @@
-ghost use Rattle.std.specs.Prelude.{◌≡◌, ◌<◌, ◌^◌, [], ◌∷◌, ◌++◌, length, slice_get, Option, is_some, IfOk, IfSome};
+ghost use Rattle.std.specs.Prelude.{◌≡◌, ◌<◌, ◌^◌, false, [], ◌∷◌, ◌++◌, length, slice_get, Option, is_some, IfOk, IfSome};
 ghost use Rattle.std.specs.Option.{option_copied};
 ghost use Rattle.std.specs.List.{list_all};
 ghost use Rattle.px_core.specs.CommandTree.{command_tree};
@@ -55,7 +55,6 @@ pub fn goes_on(job: &Job, state: &State, command: &Command) -> Option<bool>
 }
 
 /// The ways on from a state by a command, by name and in order. None where the command doesn't fit the state.
-#[tactic(auto, using(px_core::proofs::CommandEquations::trees))]
 pub fn command_ways(
     alloc: Global,
     job: &Job,
@@ -65,23 +64,32 @@ pub fn command_ways(
     requires few { length state.now.atoms < 2 ^ 32 }
     ensures { IfOk result (λ r. r.items ≡ spec.command_ways (job_tree job.now) state.now (command_tree command.now)) }
 {
+    match goes_on(job, state, command) {
+        Some(yes) => on_if(alloc, yes),
+        None => branching_ways(alloc, job, state, command),
+    }
+}
+
+// The same of a command that may have other ways than `On`.
+#[tactic(auto, using(px_core::proofs::CommandEquations::trees))]
+fn branching_ways(
+    alloc: Global,
+    job: &Job,
+    state: &State,
+    command: &Command,
+) -> Result<Vec<Way>, NoMemory>
+    requires few { length state.now.atoms < 2 ^ 32 }
+    requires other { only_goes_on (command_tree command.now) ≡ false }
+    ensures { IfOk result (λ r. r.items ≡ spec.command_ways (job_tree job.now) state.now (command_tree command.now)) }
+{
     let types = job.types.as_slice();
     match command {
-        Command::Assign { op, a, b, .. } => on_if(alloc, is_operation(state, *op, *a, *b)),
-        Command::Unset { .. } | Command::Loop { .. } | Command::Input { .. } => {
-            on_if(alloc, true)
-        }
         Command::Read { slot, .. } => read_ways(
             alloc,
             state.vars.as_slice(),
             slot_content(state.slots.as_slice(), *slot),
         ),
         Command::Test { how, a, b, .. } => test_ways(alloc, state, *how, a, b),
-        Command::If { slot, .. } => on_if(
-            alloc,
-            has_outcome(slot_content(state.slots.as_slice(), *slot)),
-        ),
-        Command::Leave | Command::Break | Command::Continue => on_if(alloc, is_in_loop(state)),
         Command::Load {
             at,
             field,
@@ -105,10 +113,18 @@ pub fn command_ways(
         Command::Free { at, block, .. } => {
             pointer_ways(alloc, state, *block, *at, is_type(types, *block))
         }
-        Command::Call { arguments, .. } => on_if(alloc, are_arguments(state, arguments)),
-        Command::Return { from } => on_if(alloc, returns(state, job.body.result, *from)),
         Command::Stop { .. } => drop_alone(alloc),
         Command::Divide { a, b, .. } => divide_ways(alloc, state, a, b),
+        Command::Assign { .. }
+        | Command::Unset { .. }
+        | Command::If { .. }
+        | Command::Loop { .. }
+        | Command::Leave
+        | Command::Input { .. }
+        | Command::Call { .. }
+        | Command::Return { .. }
+        | Command::Break
+        | Command::Continue => unreachable!(),
     }
 }
 
@@ -144,7 +160,7 @@ fn both(alloc: Global, first: Way, second: Way) -> Result<Vec<Way>, NoMemory>
 
 // Whether the contents are of the operator's kind. No polynomial is made for that.
 #[tactic(auto, using(crate::proofs::ContentLemmas::words_make))]
-pub(crate) fn is_operation(state: &State, op: Operator, a: Operand, b: Operand) -> bool
+fn is_operation(state: &State, op: Operator, a: Operand, b: Operand) -> bool
     ensures { result ≡ is_some (operations.operation op (operand_content state.now a) (operand_content state.now b)) }
 {
     match op {
@@ -241,7 +257,7 @@ fn read_ways(
 }
 
 // The outcome of a test, where it is 1 or 0.
-pub(crate) fn has_outcome(content: Option<&Content>) -> bool
+fn has_outcome(content: Option<&Content>) -> bool
     ensures { result ≡ is_some (spec.outcome_of (or_unwritten (option_copied content.entry))) }
 {
     match content {
@@ -252,7 +268,7 @@ pub(crate) fn has_outcome(content: Option<&Content>) -> bool
 
 // Whether a loop is open.
 #[tactic(auto, using(crate::proofs::ContentLemmas::loop_or_none))]
-pub(crate) fn is_in_loop(state: &State) -> bool
+fn is_in_loop(state: &State) -> bool
     ensures { result ≡ is_some (spec.last_loop state.now.loops) }
 {
     !state.loops.is_empty()
@@ -338,7 +354,7 @@ fn place_ways(
 
 // Whether each argument is a word or a place.
 #[tactic(auto, using(crate::proofs::ContentLemmas::all_images))]
-pub(crate) fn are_arguments(state: &State, arguments: &[Operand]) -> bool
+fn are_arguments(state: &State, arguments: &[Operand]) -> bool
     ensures { result ≡ list_all spec.is_argument (spec.argument_contents state.now arguments.now) }
 {
     are_written(state, arguments)
@@ -351,7 +367,7 @@ fn are_written(state: &State, operands: &[Operand]) -> bool
 }
 
 // Whether a procedure with such a result returns so.
-pub(crate) fn returns(state: &State, result_type: Option<ValueType>, from: Option<Operand>) -> bool
+fn returns(state: &State, result_type: Option<ValueType>, from: Option<Operand>) -> bool
     ensures { result ≡ is_some (spec.returned state.now result_type from) }
 {
     match (result_type, from) {
