@@ -15,7 +15,7 @@ mod states;
 
 pub use graph::Graph;
 pub use jobs::{Callee, Job};
-pub use jobs_by_value::{copy_job, equal_jobs};
+pub use jobs_by_value::copy_job;
 pub use laws::{
     acts_lessen, constraints_are_sorted, constraints_grow, ranks_are_unique, ranks_rise,
     reached_are_askable, reached_keep_states, ways_keep_states, worked_alternatives,
