@@ -7,13 +7,13 @@ use Rattle.std.specs.List.{slice_range}
 use Rattle.px_cnf.specs.declared.literal.Literal.{Literal}
 use Rattle.std.proofs.lemmas.List.Elements.{All-push}
 use Rattle.px_cnf.specs.Clauses.{Assignment, holds, AreBelow}
-use Rattle.px_cnf.specs.Circuits.{parity, majority}
+use Rattle.px_cnf.specs.Circuits.{differ, majority}
 use Rattle.px_cnf.specs.Words.{bit, number}
 use Rattle.px_cnf.proofs.Meeting.{below_more}
 use Rattle.px_cnf.proofs.Numbers.{bit_small, number-below, number-push, number-take, sum_more, sum_whole, two_more, product_more, doubled}
 
 -- three bits and the two of their sum
-pub three_bits : (p q r : Bool) → bit (parity p q r) + 2 * bit (majority p q r) ≡ bit p + bit q + bit r
+pub three_bits : (p q r : Bool) → bit (differ (differ p q) r) + 2 * bit (majority p q r) ≡ bit p + bit q + bit r
 three_bits true true true = refl
 three_bits true true false = refl
 three_bits true false true = refl
@@ -23,7 +23,7 @@ three_bits false true false = refl
 three_bits false false true = refl
 three_bits false false false = refl
 
-pub bits_added : (s c p q r : Bool) → s ≡ parity p q r → c ≡ majority p q r → bit s + 2 * bit c ≡ bit p + bit q + bit r
+pub bits_added : (s c p q r : Bool) → s ≡ differ (differ p q) r → c ≡ majority p q r → bit s + 2 * bit c ≡ bit p + bit q + bit r
 bits_added s c p q r e f = rw (e, f) (three_bits p q r)
 
 pub number-take_more : (a : Assignment) (ls : List Literal) (i : ℕ) (d : Literal) → i < length ls → number a (take (i + 1) ls) ≡ number a (take i ls) + 2 ^ i * bit (holds a (get_or ls i d))
@@ -61,7 +61,7 @@ pub carry_next : (a : Assignment) (x y : List Literal) (above carried : Literal)
     → (r : ℕ) × (r < 2 ^ i) × (r + 2 ^ i * bit (holds a carried) ≡ number a (take i x) + number a (take i y) + k)
     → (s : ℕ) × (s < 2 ^ (i + 1)) × (s + 2 ^ (i + 1) * bit (holds a above) ≡ number a (take (i + 1) x) + number a (take (i + 1) y) + k)
 carry_next a x y above carried k i d h j m (r, l, e) =
-    let b = parity (holds a (get_or x i d)) (holds a (get_or y i d)) (holds a carried) in (
+    let b = differ (differ (holds a (get_or x i d)) (holds a (get_or y i d))) (holds a carried) in (
       r + 2 ^ i * bit b,
       rw two_more (below_twice r (2 ^ i) (bit b) l (bit_small b)),
       ap (λ n. (r + 2 ^ i * bit b) + n * bit (holds a above)) (two_more i)

@@ -7,7 +7,7 @@ use Rattle.std.specs.List.{list_any, list_all}
 use Rattle.std.proofs.lemmas.List.Elements.{All-nil, All-cons, All-from_recursion}
 use Rattle.px_cnf.specs.declared.literal.Literal.{Literal}
 use Rattle.px_cnf.specs.Clauses.{Assignment, holds, negated, Meets, AreBelow}
-use Rattle.px_cnf.specs.Circuits.{Gates, Always, literal, Entry, entry_clause, IsTable, IsGate, parity, majority}
+use Rattle.px_cnf.specs.Circuits.{Gates, Always, literal, Entry, entry_clause, IsTable, IsGate, differ, majority}
 use Rattle.px_cnf.proofs.Meeting.{holds-negated, holds_same}
 use Rattle.px_cnf.proofs.Defining.{output_is}
 
@@ -90,131 +90,77 @@ pub both_made : (p q np nq : Literal) (d e f : Entry) → np ≡ negated p → n
     → d ∷ e ∷ f ∷ [] ≡ both_entries p q
 both_made p q np nq d e f hp hq hd he hf = rw (hd, he, hf, hp, hq) refl
 
--- ---- the sum and the carry of three bits
+-- ---- whether two differ
 
-abbrev pub parity_entries : Literal → Literal → Literal → List Entry
-parity_entries p q r =
-    entry false (p ∷ q ∷ r ∷ []) ∷ entry false (p ∷ negated q ∷ negated r ∷ []) ∷ entry false (negated p ∷ q ∷ negated r ∷ []) ∷ entry false (negated p ∷ negated q ∷ r ∷ [])
-    ∷ entry true (negated p ∷ q ∷ r ∷ []) ∷ entry true (p ∷ negated q ∷ r ∷ []) ∷ entry true (p ∷ q ∷ negated r ∷ []) ∷ entry true (negated p ∷ negated q ∷ negated r ∷ []) ∷ []
+abbrev pub differ_entries : Literal → Literal → List Entry
+differ_entries p q = entry false (p ∷ q ∷ []) ∷ entry false (negated p ∷ negated q ∷ []) ∷ entry true (negated p ∷ q ∷ []) ∷ entry true (p ∷ negated q ∷ []) ∷ []
 
-abbrev parity_rows : Bool → Bool → Bool → Bool → Bool → Bool → BoolTable
-parity_rows p q r np nq nr =
-    (false, p ∷ q ∷ r ∷ []) ∷ (false, p ∷ nq ∷ nr ∷ []) ∷ (false, np ∷ q ∷ nr ∷ []) ∷ (false, np ∷ nq ∷ r ∷ [])
-    ∷ (true, np ∷ q ∷ r ∷ []) ∷ (true, p ∷ nq ∷ r ∷ []) ∷ (true, p ∷ q ∷ nr ∷ []) ∷ (true, np ∷ nq ∷ nr ∷ []) ∷ []
+abbrev differ_rows : Bool → Bool → Bool → Bool → BoolTable
+differ_rows p q np nq = (false, p ∷ q ∷ []) ∷ (false, np ∷ nq ∷ []) ∷ (true, np ∷ q ∷ []) ∷ (true, p ∷ nq ∷ []) ∷ []
 
-parity_met_at : (p q r : Bool) → meets_table (parity p q r) (parity_rows p q r (not p) (not q) (not r)) ≡ true
-parity_met_at true true true = refl
-parity_met_at true true false = refl
-parity_met_at true false true = refl
-parity_met_at true false false = refl
-parity_met_at false true true = refl
-parity_met_at false true false = refl
-parity_met_at false false true = refl
-parity_met_at false false false = refl
+differ_met_at : (p q : Bool) → meets_table (differ p q) (differ_rows p q (not p) (not q)) ≡ true
+differ_met_at true true = refl
+differ_met_at true false = refl
+differ_met_at false true = refl
+differ_met_at false false = refl
 
-parity_met : (z p q r np nq nr : Bool) → np ≡ not p → nq ≡ not q → nr ≡ not r → z ≡ parity p q r → meets_table z (parity_rows p q r np nq nr) ≡ true
-parity_met z p q r np nq nr e f g h = rw (e, f, g, h) (parity_met_at p q r)
+differ_met : (z p q np nq : Bool) → np ≡ not p → nq ≡ not q → z ≡ differ p q → meets_table z (differ_rows p q np nq) ≡ true
+differ_met z p q np nq e f h = rw (e, f, h) (differ_met_at p q)
 
-parity_given_at : (p q r : Bool) → table_gives (parity p q r) (parity_rows p q r (not p) (not q) (not r)) ≡ true
-parity_given_at true true true = refl
-parity_given_at true true false = refl
-parity_given_at true false true = refl
-parity_given_at true false false = refl
-parity_given_at false true true = refl
-parity_given_at false true false = refl
-parity_given_at false false true = refl
-parity_given_at false false false = refl
+differ_given_at : (p q : Bool) → table_gives (differ p q) (differ_rows p q (not p) (not q)) ≡ true
+differ_given_at true true = refl
+differ_given_at true false = refl
+differ_given_at false true = refl
+differ_given_at false false = refl
 
-parity_given : (p q r np nq nr : Bool) → np ≡ not p → nq ≡ not q → nr ≡ not r → table_gives (parity p q r) (parity_rows p q r np nq nr) ≡ true
-parity_given p q r np nq nr e f g = rw (e, f, g) (parity_given_at p q r)
+differ_given : (p q np nq : Bool) → np ≡ not p → nq ≡ not q → table_gives (differ p q) (differ_rows p q np nq) ≡ true
+differ_given p q np nq e f = rw (e, f) (differ_given_at p q)
 
-abbrev pub carry_entries : Literal → Literal → Literal → List Entry
-carry_entries p q r =
-    entry false (p ∷ q ∷ []) ∷ entry false (p ∷ r ∷ []) ∷ entry false (q ∷ r ∷ [])
-    ∷ entry true (negated p ∷ negated q ∷ []) ∷ entry true (negated p ∷ negated r ∷ []) ∷ entry true (negated q ∷ negated r ∷ []) ∷ []
-
-abbrev carry_rows : Bool → Bool → Bool → Bool → Bool → Bool → BoolTable
-carry_rows p q r np nq nr =
-    (false, p ∷ q ∷ []) ∷ (false, p ∷ r ∷ []) ∷ (false, q ∷ r ∷ [])
-    ∷ (true, np ∷ nq ∷ []) ∷ (true, np ∷ nr ∷ []) ∷ (true, nq ∷ nr ∷ []) ∷ []
-
-carry_met_at : (p q r : Bool) → meets_table (majority p q r) (carry_rows p q r (not p) (not q) (not r)) ≡ true
-carry_met_at true true true = refl
-carry_met_at true true false = refl
-carry_met_at true false true = refl
-carry_met_at true false false = refl
-carry_met_at false true true = refl
-carry_met_at false true false = refl
-carry_met_at false false true = refl
-carry_met_at false false false = refl
-
-carry_met : (z p q r np nq nr : Bool) → np ≡ not p → nq ≡ not q → nr ≡ not r → z ≡ majority p q r → meets_table z (carry_rows p q r np nq nr) ≡ true
-carry_met z p q r np nq nr e f g h = rw (e, f, g, h) (carry_met_at p q r)
-
-carry_given_at : (p q r : Bool) → table_gives (majority p q r) (carry_rows p q r (not p) (not q) (not r)) ≡ true
-carry_given_at true true true = refl
-carry_given_at true true false = refl
-carry_given_at true false true = refl
-carry_given_at true false false = refl
-carry_given_at false true true = refl
-carry_given_at false true false = refl
-carry_given_at false false true = refl
-carry_given_at false false false = refl
-
-carry_given : (p q r np nq nr : Bool) → np ≡ not p → nq ≡ not q → nr ≡ not r → table_gives (majority p q r) (carry_rows p q r np nq nr) ≡ true
-carry_given p q r np nq nr e f g = rw (e, f, g) (carry_given_at p q r)
-
-module _ (z : ℕ) (p q r : Literal) (i : p.variable < z) (j : q.variable < z) (k : r.variable < z) where
-  two : (a b : Literal) → a.variable < z → b.variable < z → AreBelow z (a ∷ b ∷ [])
-  two a b h g = below_one z a (b ∷ []) h (below_one z b [] g (below_none z))
-
-  three : (a b c : Literal) → a.variable < z → b.variable < z → c.variable < z → AreBelow z (a ∷ b ∷ c ∷ [])
-  three a b c h g f = below_one z a (b ∷ c ∷ []) h (two b c g f)
-
-  same : (f : Bool → Bool → Bool → Bool) (a b : Assignment) → ((x : ℕ) → x < z → b x ≡ a x) → f (holds b p) (holds b q) (holds b r) ≡ f (holds a p) (holds a q) (holds a r)
-  same f a b s = rw (holds_same z a b p s i, holds_same z a b q s j, holds_same z a b r s k) refl
-
-  pub parity_table : IsTable z (λ a. parity (holds a p) (holds a q) (holds a r)) (parity_entries p q r)
-  parity_table = record {
-    below = All-from_recursion (AreBelow z) (rows_of (parity_entries p q r)) (
-      three p q r i j k,
-      (
-        three p (negated q) (negated r) i j k,
-        (
-          three (negated p) q (negated r) i j k,
-          (
-            three (negated p) (negated q) r i j k,
-            (three (negated p) q r i j k, (three p (negated q) r i j k, (three p q (negated r) i j k, (three (negated p) (negated q) (negated r) i j k, tt)))),
-          ),
-        ),
-      ),
-    );
-    met = λ a h. parity_met (a z) (holds a p) (holds a q) (holds a r) (holds a (negated p)) (holds a (negated q)) (holds a (negated r)) (holds-negated a p) (holds-negated a q) (holds-negated a r) h;
-    given = λ a. parity_given (holds a p) (holds a q) (holds a r) (holds a (negated p)) (holds a (negated q)) (holds a (negated r)) (holds-negated a p) (holds-negated a q) (holds-negated a r);
-    depends = λ a b s. same parity a b s;
-  }
-
-  pub carry_table : IsTable z (λ a. majority (holds a p) (holds a q) (holds a r)) (carry_entries p q r)
-  carry_table = record {
-    below = All-from_recursion (AreBelow z) (rows_of (carry_entries p q r))
-        (two p q i j, (two p r i k, (two q r j k, (two (negated p) (negated q) i j, (two (negated p) (negated r) i k, (two (negated q) (negated r) j k, tt))))));
-    met = λ a h. carry_met (a z) (holds a p) (holds a q) (holds a r) (holds a (negated p)) (holds a (negated q)) (holds a (negated r)) (holds-negated a p) (holds-negated a q) (holds-negated a r) h;
-    given = λ a. carry_given (holds a p) (holds a q) (holds a r) (holds a (negated p)) (holds a (negated q)) (holds a (negated r)) (holds-negated a p) (holds-negated a q) (holds-negated a r);
-    depends = λ a b s. same majority a b s;
-  }
+pub differ_table : (z : ℕ) (p q : Literal) → p.variable < z → q.variable < z → IsTable z (λ a. differ (holds a p) (holds a q)) (differ_entries p q)
+differ_table z p q i j = record {
+  below = All-from_recursion (AreBelow z) (rows_of (differ_entries p q)) (two p q i j, (two (negated p) (negated q) i j, (two (negated p) q i j, (two p (negated q) i j, tt))));
+  met = λ a h. differ_met (a z) (holds a p) (holds a q) (holds a (negated p)) (holds a (negated q)) (holds-negated a p) (holds-negated a q) h;
+  given = λ a. differ_given (holds a p) (holds a q) (holds a (negated p)) (holds a (negated q)) (holds-negated a p) (holds-negated a q);
+  depends = λ a b s. ap₂ differ (holds_same z a b p s i) (holds_same z a b q s j);
+}
+  where
+    two : (a b : Literal) → a.variable < z → b.variable < z → AreBelow z (a ∷ b ∷ [])
+    two a b h g = below_one z a (b ∷ []) h (below_one z b [] g (below_none z))
 
 -- the entries as the code makes them: each of these is one of the table, by the negations that it names
-pub parity_made : (p q r np nq nr : Literal) (a b c d e f g h : Entry) → np ≡ negated p → nq ≡ negated q → nr ≡ negated r
-    → a ≡ entry false (p ∷ q ∷ r ∷ []) → b ≡ entry false (p ∷ nq ∷ nr ∷ []) → c ≡ entry false (np ∷ q ∷ nr ∷ []) → d ≡ entry false (np ∷ nq ∷ r ∷ [])
-    → e ≡ entry true (np ∷ q ∷ r ∷ []) → f ≡ entry true (p ∷ nq ∷ r ∷ []) → g ≡ entry true (p ∷ q ∷ nr ∷ []) → h ≡ entry true (np ∷ nq ∷ nr ∷ [])
-    → a ∷ b ∷ c ∷ d ∷ e ∷ f ∷ g ∷ h ∷ [] ≡ parity_entries p q r
-parity_made p q r np nq nr a b c d e f g h hp hq hr ha hb hc hd he hf hg hh = rw (ha, hb, hc, hd, he, hf, hg, hh, hp, hq, hr) refl
+pub differ_made : (p q np nq : Literal) (a b c d : Entry) → np ≡ negated p → nq ≡ negated q
+    → a ≡ entry false (p ∷ q ∷ []) → b ≡ entry false (np ∷ nq ∷ []) → c ≡ entry true (np ∷ q ∷ []) → d ≡ entry true (p ∷ nq ∷ [])
+    → a ∷ b ∷ c ∷ d ∷ [] ≡ differ_entries p q
+differ_made p q np nq a b c d hp hq ha hb hc hd = rw (ha, hb, hc, hd, hp, hq) refl
 
-pub carry_made : (p q r np nq nr : Literal) (a b c d e f : Entry) → np ≡ negated p → nq ≡ negated q → nr ≡ negated r
-    → a ≡ entry false (p ∷ q ∷ []) → b ≡ entry false (p ∷ r ∷ []) → c ≡ entry false (q ∷ r ∷ [])
-    → d ≡ entry true (np ∷ nq ∷ []) → e ≡ entry true (np ∷ nr ∷ []) → f ≡ entry true (nq ∷ nr ∷ [])
-    → a ∷ b ∷ c ∷ d ∷ e ∷ f ∷ [] ≡ carry_entries p q r
-carry_made p q r np nq nr a b c d e f hp hq hr ha hb hc hd he hf = rw (ha, hb, hc, hd, he, hf, hp, hq, hr) refl
+-- ---- what is made of these gates
+
+neither_at : (p q : Bool) → not (not p && not q) ≡ (p || q)
+neither_at true true = refl
+neither_at true false = refl
+neither_at false true = refl
+neither_at false false = refl
+
+-- one of two is true where the negations aren't both
+pub either_of : (a : Assignment) (p q np nq neither l : Literal) → np ≡ negated p → nq ≡ negated q → l ≡ negated neither → holds a neither ≡ (holds a np && holds a nq)
+    → holds a l ≡ (holds a p || holds a q)
+either_of a p q np nq neither l hp hq hl h =
+    ap (holds a) hl ∙ holds-negated a neither ∙ ap not (h ∙ ap₂ (λ (x y : Bool). x && y) (ap (holds a) hp ∙ holds-negated a p) (ap (holds a) hq ∙ holds-negated a q))
+    ∙ neither_at (holds a p) (holds a q)
+
+above_at : (p q r : Bool) → ((p && q) || (differ p q && r)) ≡ majority p q r
+above_at true true true = refl
+above_at true true false = refl
+above_at true false true = refl
+above_at true false false = refl
+above_at false true true = refl
+above_at false true false = refl
+above_at false false true = refl
+above_at false false false = refl
+
+-- the bit above, of bits of which it is said whether the first two differ
+pub carry_is : (p q d r c : Bool) → d ≡ differ p q → c ≡ ((p && q) || (d && r)) → c ≡ majority p q r
+carry_is p q d r c e h = h ∙ ap (λ (x : Bool). (p && q) || (x && r)) e ∙ above_at p q r
 
 -- ---- what a call that defines a gate owes and gives
 

@@ -45,11 +45,11 @@ Always g P = (a : Assignment) → Meets a g.clauses → P a
 
 -- ---- bits
 
--- the last bit of the sum of three bits
-abbrev pub parity : Bool → Bool → Bool → Bool
-parity p q r = cond p (cond q r (not r)) (cond q (not r) r)
+-- one is true and the other isn't
+abbrev pub differ : Bool → Bool → Bool
+differ p q = cond p (not q) q
 
--- the bit above it
+-- two of the three are true at least, so that the sum of three bits has a bit above the last one
 abbrev pub majority : Bool → Bool → Bool → Bool
 majority p q r = cond p (q || r) (q && r)
 

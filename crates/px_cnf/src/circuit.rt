@@ -1,6 +1,6 @@
-ghost use Rattle.std.specs.Prelude.{◌≡◌, ◌<◌, ◌&&◌, [], true, map, IfOk, OnOk};
+ghost use Rattle.std.specs.Prelude.{◌≡◌, ◌<◌, ◌&&◌, ◌||◌, [], true, map, IfOk, OnOk};
 ghost use Rattle.px_cnf.specs.Clauses.{holds, Meets};
-ghost use Rattle.px_cnf.specs.Circuits.{gates_of, IsCircuit, IsGate, Grows, Always, literal, entry_of, entry_clause, parity, majority};
+ghost use Rattle.px_cnf.specs.Circuits.{gates_of, IsCircuit, IsGate, Grows, Always, literal, entry_of, entry_clause, differ, majority};
 
 use crate::Literal;
 use px_terms::{Items, NoMemory};
@@ -106,27 +106,58 @@ impl Circuit {
         ])
     }
 
-    // The last bit of the sum of three bits.
-    pub(crate) fn parity(&mut self, p: Literal, q: Literal, r: Literal) -> Result<Literal, NoMemory>
+    // Whether one is true and the other isn't.
+    pub(crate) fn differ(&mut self, p: Literal, q: Literal) -> Result<Literal, NoMemory>
         requires circuit { IsCircuit (gates_of self.old) }
         requires first { p.variable < self.old.variables }
         requires second { q.variable < self.old.variables }
+        ensures grows { OnOk result (Grows (gates_of self.old) (gates_of self.new)) }
+        ensures inside { IfOk result (λ l. l.variable < self.new.variables) }
+        ensures value { IfOk result (λ l. Always (gates_of self.new) (λ a. holds a l ≡ differ (holds a p) (holds a q))) }
+    {
+        let (np, nq) = (p.negated(), q.negated());
+        self.define(&[
+            entry(false, &[p, q]),
+            entry(false, &[np, nq]),
+            entry(true, &[np, q]),
+            entry(true, &[p, nq]),
+        ])
+    }
+
+    // Whether one of both is true.
+    fn either(&mut self, p: Literal, q: Literal) -> Result<Literal, NoMemory>
+        requires circuit { IsCircuit (gates_of self.old) }
+        requires first { p.variable < self.old.variables }
+        requires second { q.variable < self.old.variables }
+        ensures grows { OnOk result (Grows (gates_of self.old) (gates_of self.new)) }
+        ensures inside { IfOk result (λ l. l.variable < self.new.variables) }
+        ensures value { IfOk result (λ l. Always (gates_of self.new) (λ a. holds a l ≡ (holds a p || holds a q))) }
+    {
+        let neither = self.both(p.negated(), q.negated())?;
+        Ok(neither.negated())
+    }
+
+    // The bit above the last one of the sum of three bits, of which the first two are unequal where a literal says so.
+    pub(crate) fn above(
+        &mut self,
+        p: Literal,
+        q: Literal,
+        unequal: Literal,
+        r: Literal,
+    ) -> Result<Literal, NoMemory>
+        requires circuit { IsCircuit (gates_of self.old) }
+        requires first { p.variable < self.old.variables }
+        requires second { q.variable < self.old.variables }
+        requires unequal { unequal.variable < self.old.variables }
         requires third { r.variable < self.old.variables }
         ensures grows { OnOk result (Grows (gates_of self.old) (gates_of self.new)) }
         ensures inside { IfOk result (λ l. l.variable < self.new.variables) }
-        ensures value { IfOk result (λ l. Always (gates_of self.new) (λ a. holds a l ≡ parity (holds a p) (holds a q) (holds a r))) }
+        ensures value { IfOk result (λ l. Always (gates_of self.new) (λ a. holds a l ≡ ((holds a p && holds a q) || (holds a unequal && holds a r)))) }
     {
-        let (np, nq, nr) = (p.negated(), q.negated(), r.negated());
-        self.define(&[
-            entry(false, &[p, q, r]),
-            entry(false, &[p, nq, nr]),
-            entry(false, &[np, q, nr]),
-            entry(false, &[np, nq, r]),
-            entry(true, &[np, q, r]),
-            entry(true, &[p, nq, r]),
-            entry(true, &[p, q, nr]),
-            entry(true, &[np, nq, nr]),
-        ])
+        let both = self.both(p, q)?;
+        let passed = self.both(unequal, r)?;
+        let above = self.either(both, passed)?;
+        Ok(above)
     }
 
     // The bit above the last one of the sum of three bits.
@@ -139,14 +170,8 @@ impl Circuit {
         ensures inside { IfOk result (λ l. l.variable < self.new.variables) }
         ensures value { IfOk result (λ l. Always (gates_of self.new) (λ a. holds a l ≡ majority (holds a p) (holds a q) (holds a r))) }
     {
-        let (np, nq, nr) = (p.negated(), q.negated(), r.negated());
-        self.define(&[
-            entry(false, &[p, q]),
-            entry(false, &[p, r]),
-            entry(false, &[q, r]),
-            entry(true, &[np, nq]),
-            entry(true, &[np, nr]),
-            entry(true, &[nq, nr]),
-        ])
+        let unequal = self.differ(p, q)?;
+        let above = self.above(p, q, unequal, r)?;
+        Ok(above)
     }
 }

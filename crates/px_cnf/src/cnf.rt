@@ -81,8 +81,8 @@ fn joined(
 /// The clauses of a list of conjuncts: assignments that meet them all give words that make the conjuncts true, and all
 /// words that do come from such an assignment.
 ///
-/// The time and the number of clauses are linear in the conjuncts and their degrees: a product of two words takes 8,528
-/// clauses, a sum 448 and an order 192, and there is one clause more.
+/// The time and the number of clauses are linear in the conjuncts and their degrees: a product of two words takes 10,016
+/// clauses, a sum 544 and an order 416, and there is one clause more.
 pub fn translate(alloc: Global, conjuncts: &[Conj]) -> Result<Cnf, CnfFault>
     requires { length conjuncts.now < 2 ^ 32 }
     ensures stands { IfOk result (λ cnf. StandsFor cnf conjuncts.now) }

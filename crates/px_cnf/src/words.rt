@@ -19,8 +19,9 @@ impl Circuit {
         ensures inside { IfOk result (λ s. (s.0.variable < self.new.variables) × (s.1.variable < self.new.variables)) }
         ensures value { IfOk result (λ s. Always (gates_of self.new) (λ a. bit (holds a s.0) + 2 * bit (holds a s.1) ≡ bit (holds a p) + bit (holds a q) + bit (holds a r))) }
     {
-        let last = self.parity(p, q, r)?;
-        let above = self.carry(p, q, r)?;
+        let unequal = self.differ(p, q)?;
+        let last = self.differ(unequal, r)?;
+        let above = self.above(p, q, unequal, r)?;
         Ok((last, above))
     }
 
@@ -121,7 +122,7 @@ impl Circuit {
     // The product of two words of as many bits.
     //
     // From the highest bit of the first word on, twice the product so far and a row of the second are added: for n
-    // bits n(n + 1) / 2 bits of rows, of 3 clauses each, and n(n - 1) / 2 bits of sums, of 14; 8,528 clauses for 32 bits.
+    // bits n(n + 1) / 2 bits of rows, of 3 clauses each, and n(n - 1) / 2 bits of sums, of 17; 10,016 clauses for 32 bits.
     pub(crate) fn product(
         &mut self,
         x: &[Literal],

@@ -1,17 +1,8 @@
 use Rattle.px_cnf.specs.Clauses.{holds}
-use Rattle.px_cnf.specs.Circuits.{gates_of, majority}
-use Rattle.px_cnf.proofs.Tables.{gate_of, output_of, carry_entries, carry_table, carry_made}
+use Rattle.px_cnf.proofs.Tables.{carry_is}
 use Rattle.px_cnf.proofs.circuit.Circuit.carry.Goals as goal
 
-pub define-requires-clause-gate : goal.define-requires-clause-gate
-define-requires-clause-gate c =
-    gate_of c.args.self.now.variables (λ a. majority (holds a c.args.p) (holds a c.args.q) (holds a c.args.r)) (carry_entries c.args.p c.args.q c.args.r) _
-    (carry_made c.args.p c.args.q c.args.r _ _ _ _ _ _ _ _ _ c.negated-np.ensures c.negated-nq.ensures c.negated-nr.ensures c.entry.ensures c.entry-2.ensures c.entry-3.ensures c.entry-4.ensures c.entry-5.ensures c.entry-6.ensures)
-    (carry_table c.args.self.now.variables c.args.p c.args.q c.args.r c.requires.first c.requires.second c.requires.third)
-
 pub returns-clause-value : goal.returns-clause-value
-returns-clause-value c =
-    output_of c.args.self.now.variables (λ a. majority (holds a c.args.p) (holds a c.args.q) (holds a c.args.r)) (carry_entries c.args.p c.args.q c.args.r) _ (gates_of c.define.new.self) c.define.result
-    (carry_made c.args.p c.args.q c.args.r _ _ _ _ _ _ _ _ _ c.negated-np.ensures c.negated-nq.ensures c.negated-nr.ensures c.entry.ensures c.entry-2.ensures c.entry-3.ensures c.entry-4.ensures c.entry-5.ensures c.entry-6.ensures)
-    (carry_table c.args.self.now.variables c.args.p c.args.q c.args.r c.requires.first c.requires.second c.requires.third)
-    c.define.ensures.output c.define.ensures.met
+returns-clause-value c a m =
+    carry_is (holds a c.args.p) (holds a c.args.q) (holds a c.in_ok-unequal.unequal) (holds a c.args.r) (holds a c.in_ok-above.above)
+    (c.in_ok-unequal.ensures.value a (c.in_ok-above.ensures.grows.clauses a m)) (c.in_ok-above.ensures.value a m)
