@@ -1,7 +1,6 @@
 -- The negations of the literals that were taken, one after another.
-use Rattle.std.proofs.Common.{◌≡◌, ◌≢◌, ℕ, suc, ◌+◌, ◌<◌, ◌≤◌, true, false, Option, None, Some, List, [], ◌∷◌, ◌++◌, refl, sym, ap, ◌∙◌, subst, length, inl, inr, arith}
+use Rattle.std.proofs.Common.{◌≡◌, ◌≢◌, ℕ, suc, ◌+◌, ◌<◌, None, List, [], ◌∷◌, ◌++◌, refl, sym, ap, ◌∙◌, subst, length, inl, inr, arith}
 use Rattle.std.specs.List.{Contains}
-use Rattle.std.specs.Option.{is_none}
 use Rattle.std.proofs.lemmas.Bool.{cases_eq}
 use Rattle.std.proofs.lemmas.List.Elements.{Contains-append_left, Contains-push, Contains-push_cases, All-append, All-cons, All-nil}
 use Rattle.px_cnf.specs.Clauses.{negated}
@@ -19,24 +18,7 @@ apart_push (k ∷ ks) l h f = (
   apart_push ks l h.1 (λ m (i, n, e). f m (suc i, omega arith, e)),
 )
 
--- ---- a step that was taken has no reason
-
-pub none_of : {A : Type 0} (o : Option A) → is_none o ≡ true → o ≡ None
-none_of None e = refl
-none_of (Some x) e = let f : false ≡ true = e in cc
-
-pub some_of : {A : Type 0} (o : Option A) → is_none o ≡ false → o ≢ None
-some_of None e = let f : true ≡ false = e in cc
-some_of (Some x) e = λ g. let f : false ≡ true = ap is_none g in cc
-
 -- ---- step by step
-
-pub turned_none : (steps : List Step) → AreTurned steps 0 []
-turned_none steps = record {
-  stands = λ m (i, h, e). absurd (omega arith);
-  found = λ p h. absurd (omega arith);
-  apart = tt;
-}
 
 module _ (steps : List Step) (p : ℕ) (parts : List Literal) (h : AreTurned steps p parts) where
   -- a step that wasn't taken
