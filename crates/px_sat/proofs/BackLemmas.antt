@@ -1,5 +1,5 @@
--- Back to where a clause more forces something.
-use Rattle.std.proofs.Common.{◌≡◌, ◌≢◌, ℕ, zero, suc, ◌-◌, ◌<◌, ◌≤◌, Bool, List, [], ◌∷◌, ◌++◌, Some, None, refl, sym, ap, ◌∙◌, subst, length, take, ◌⊎◌, inl, inr, arith}
+-- Back to where the last literal was taken, with a clause more that forces its negation.
+use Rattle.std.proofs.Common.{◌≡◌, ◌≢◌, ℕ, zero, suc, ◌<◌, ◌≤◌, List, [], ◌∷◌, ◌++◌, Some, None, refl, sym, ap, ◌∙◌, subst, length, take, ◌⊎◌, inl, inr, arith}
 use Rattle.std.specs.List.{Contains, slice_get}
 use Rattle.std.proofs.lemmas.Bool.{cases_lt}
 use Rattle.std.proofs.lemmas.Option.{slice_get_within}
@@ -11,7 +11,7 @@ use Rattle.px_cnf.specs.declared.literal.Literal.{Literal}
 use Rattle.px_sat.specs.declared.step.Step.{Step}
 use Rattle.px_sat.specs.Logs.{is_true, is_false}
 use Rattle.px_sat.specs.Steps.{literal_at, IsTrue, IsNew, HasValue, IsReason, AreDistinct, AreSteps, begun, takes, forces, IsClosed, IsClosedTo, ForcesWithin, taken, forced}
-use Rattle.px_sat.specs.Searches.{MayDecide, IsSearch, IsLastTaken, IsNextTaken, IsTracing, reason_at}
+use Rattle.px_sat.specs.Searches.{MayDecide, IsSearch, IsLastTaken, AreTurned, reason_at}
 use Rattle.px_sat.proofs.LiteralLemmas.{same_or_not}
 use Rattle.px_sat.proofs.StepLemmas.{place_of, true_at, at_taken, at_left, at_last, places}
 use Rattle.px_sat.proofs.UseLemmas.{get_left}
@@ -116,16 +116,13 @@ steps_below {n} {clauses} below (forces before l at h new r e) = subst (λ (ss :
 
 -- ---- back
 
-module _ (n : ℕ) (clauses : List (List Literal)) (steps : List Step) (start : ℕ) (marked : List Bool) (parts : List Literal) (low head : ℕ)
-    (search : IsSearch n clauses steps) (last : IsLastTaken steps start) (tracing : IsTracing steps start marked parts low) (back : IsNextTaken steps low head) (early : head ≤ start) where
+module _ (n : ℕ) (clauses : List (List Literal)) (steps : List Step) (start : ℕ) (parts : List Literal)
+    (search : IsSearch n clauses steps) (last : IsLastTaken steps start) (parts_turned : AreTurned steps start parts) where
   abbrev pub turned : Literal
   turned = negated (literal_at steps start)
 
   abbrev pub clause : List Literal
   clause = turned ∷ parts
-
-  first : List Step
-  first = take head steps
 
   distinct : AreDistinct steps
   distinct = distinct_of search
@@ -137,26 +134,23 @@ module _ (n : ℕ) (clauses : List (List Literal)) (steps : List Step) (start : 
       let m = length-take p steps in
       let g : i ≡ q = distinct i q (omega arith) b (ap (λ (k : Literal). k.variable) (sym (at_taken steps p i (omega arith)) ∙ f) ∙ e) in omega arith
 
-  pub turned_new : IsNew (take head steps) turned
-  turned_new m t e = not_first head start m early last.inside e t
+  pub turned_new : IsNew (take start steps) turned
+  turned_new m t e = not_first start start m (omega arith) last.inside e t
 
-  -- the clause forces nothing where a decision stands before it
-  idle : (p : ℕ) → p < low → ForcesWithin clause (take p steps) (take p steps)
-  idle p h l c others =
-      let (m, k, e) = tracing.last (omega arith) in
-      elim (same_or_not turned l) [
-        | inl f ↦ absurd (not_first p (low - 1) (negated m) (omega arith) (let a = tracing.inside in let b = last.inside in omega arith) (ap (λ (x : Literal). x.variable) (sym e)) (others m (later m k) (λ g. part_other m k (g ∙ sym f))))
-        | inr d ↦ absurd (not_first p start (negated turned) (let a = tracing.inside in omega arith) last.inside refl (others turned (0, omega arith, refl) d))
-      ]
+  -- the clause forces nothing where a literal is taken before its last
+  idle : (p : ℕ) → p < start → reason_at steps p ≡ None → ForcesWithin clause (take p steps) (take p steps)
+  idle p h none l c others = elim (same_or_not turned l) [
+    | inl f ↦ absurd (not_first p p (negated (negated (literal_at steps p))) (omega arith) (let b = last.inside in omega arith) refl
+        (others (negated (literal_at steps p)) (later (parts_turned.found p h none)) (λ g. part_other (g ∙ sym f))))
+    | inr d ↦ absurd (not_first p start (negated turned) (omega arith) last.inside refl (others turned (0, omega arith, refl) d))
+  ]
     where
-      later : (m : Literal) → Contains parts m → Contains clause m
-      later m (i, a, b) = (suc i, omega arith, b)
+      later : {m : Literal} → Contains parts m → Contains clause m
+      later (i, a, b) = (suc i, omega arith, b)
 
-      part_other : (m : Literal) → Contains parts m → m ≢ turned
-      part_other m c g =
-          let (q, a, t, f) = tracing.stands m c in
-          let b : q ≡ start = distinct q start (let x = tracing.inside in let y = last.inside in omega arith) last.inside (ap (λ (x : Literal). x.variable) (f ∙ ap negated g)) in
-          let x = tracing.inside in omega arith
+      part_other : negated (literal_at steps p) ≢ turned
+      part_other g =
+          let b : p ≡ start = distinct p start (let y = last.inside in omega arith) last.inside (ap (λ (x : Literal). x.variable) g) in omega arith
 
   -- what the clauses leave open the clause more leaves open too
   closed_more : (ss : List Step) → IsClosed clauses ss → ForcesWithin clause ss ss → IsClosed (clauses ++ clause ∷ []) ss
@@ -165,19 +159,18 @@ module _ (n : ℕ) (clauses : List (List Literal)) (steps : List Step) (start : 
     | inr e ↦ subst (λ (k : List Literal). ForcesWithin k ss ss) e f
   ]
 
-  may_more : MayAt (MayDecide n (clauses ++ clause ∷ [])) (take head steps)
+  may_more : MayAt (MayDecide n (clauses ++ clause ∷ [])) (take start steps)
   may_more p h e =
-      let l = length-take head steps in
+      let l = length-take start steps in
       let i : p < length steps = omega arith in
-      let j : p < head = omega arith in
-      let r : reason_at steps p ≡ None = sym (ap (λ (s : Step). s.reason) (get_or-take head steps p _ j)) ∙ e in
-      let b : p < low = elim (cases_lt p low) [ inl a ↦ a | inr a ↦ absurd (back.none p a j r) ] in
+      let j : p < start = omega arith in
+      let r : reason_at steps p ≡ None = sym (ap (λ (s : Step). s.reason) (get_or-take start steps p _ j)) ∙ e in
       let m : MayDecide n clauses (take p steps) (literal_at steps p) = may_of search p i r in
-      subst (λ (ss : List Step). MayDecide n (clauses ++ clause ∷ []) ss (literal_at (take head steps) p)) (sym (take_first p head steps (omega arith)))
-      (subst (MayDecide n (clauses ++ clause ∷ []) (take p steps)) (sym (at_taken steps head p j))
-      (record { negative = m.negative; closed = closed_more (take p steps) m.closed (idle p b); inside = m.inside; least = m.least }))
+      subst (λ (ss : List Step). MayDecide n (clauses ++ clause ∷ []) ss (literal_at (take start steps) p)) (sym (take_first p start steps (omega arith)))
+      (subst (MayDecide n (clauses ++ clause ∷ []) (take p steps)) (sym (at_taken steps start p j))
+      (record { negative = m.negative; closed = closed_more (take p steps) m.closed (idle p j r); inside = m.inside; least = m.least }))
 
-  its_reason : IsReason (clauses ++ clause ∷ []) (take head steps) turned (length clauses)
+  its_reason : IsReason (clauses ++ clause ∷ []) (take start steps) turned (length clauses)
   its_reason = record {
     clause = clause;
     stands = get_added clauses clause;
@@ -185,45 +178,45 @@ module _ (n : ℕ) (clauses : List (List Literal)) (steps : List Step) (start : 
     others = λ m c d. elim (contains_head turned parts m c) [
       | inl e ↦ absurd (d (sym e))
       | inr k ↦ (
-          let (q, a, t, f) = tracing.stands m k in
-          let l = length-take head steps in let x = back.later in let y = back.inside in
-          subst (IsTrue (take head steps)) (at_taken steps head q (omega arith) ∙ f) (true_at (take head steps) q (omega arith)))
+          let (q, a, r, f) = parts_turned.stands m k in
+          let l = length-take start steps in let y = last.inside in
+          subst (IsTrue (take start steps)) (at_taken steps start q a ∙ f) (true_at (take start steps) q (omega arith)))
     ];
   }
 
-  pub search_back : IsSearch n (clauses ++ clause ∷ []) (take head steps ++ forced turned (length clauses) ∷ [])
-  search_back = forces (take head steps) turned (length clauses) (steps_kept clause (steps_first head search) may_more) turned_new its_reason refl
+  pub search_back : IsSearch n (clauses ++ clause ∷ []) (take start steps ++ forced turned (length clauses) ∷ [])
+  search_back = forces (take start steps) turned (length clauses) (steps_kept clause (steps_first start search) may_more) turned_new its_reason refl
 
-  decision : MayDecide n clauses (take head steps) (literal_at steps head)
-  decision = may_of search head back.inside back.taken
+  decision : MayDecide n clauses (take start steps) (literal_at steps start)
+  decision = may_of search start last.inside last.taken
 
-  forces_turned : ForcesWithin clause (take head steps) (take head steps ++ forced turned (length clauses) ∷ [])
+  forces_turned : ForcesWithin clause (take start steps) (take start steps ++ forced turned (length clauses) ∷ [])
   forces_turned l c others = elim (same_or_not turned l) [
-    | inl f ↦ subst (IsTrue (take head steps ++ forced turned (length clauses) ∷ [])) f (true_last (take head steps) (forced turned (length clauses)))
-    | inr d ↦ absurd (not_first head start (negated turned) early last.inside refl (others turned (0, omega arith, refl) d))
+    | inl f ↦ subst (IsTrue (take start steps ++ forced turned (length clauses) ∷ [])) f (true_last (take start steps) (forced turned (length clauses)))
+    | inr d ↦ absurd (not_first start start (negated turned) (omega arith) last.inside refl (others turned (0, omega arith, refl) d))
   ]
 
-  pub closed_back : IsClosedTo (clauses ++ clause ∷ []) (take head (take head steps ++ forced turned (length clauses) ∷ [])) (take head steps ++ forced turned (length clauses) ∷ [])
+  pub closed_back : IsClosedTo (clauses ++ clause ∷ []) (take start (take start steps ++ forced turned (length clauses) ∷ [])) (take start steps ++ forced turned (length clauses) ∷ [])
   closed_back =
-      let e : take head (take head steps ++ forced turned (length clauses) ∷ []) ≡ take head steps =
-      take-append-le head (take head steps) (forced turned (length clauses) ∷ []) (let l = length-take head steps in let y = back.inside in omega arith) ∙ take_first head head steps (omega arith) in
-      subst (λ (ss : List Step). IsClosedTo (clauses ++ clause ∷ []) ss (take head steps ++ forced turned (length clauses) ∷ [])) (sym e)
+      let e : take start (take start steps ++ forced turned (length clauses) ∷ []) ≡ take start steps =
+      take-append-le start (take start steps) (forced turned (length clauses) ∷ []) (let l = length-take start steps in let y = last.inside in omega arith) ∙ take_first start start steps (omega arith) in
+      subst (λ (ss : List Step). IsClosedTo (clauses ++ clause ∷ []) ss (take start steps ++ forced turned (length clauses) ∷ [])) (sym e)
       (λ c m. elim (Contains-push_cases clauses clause c m) [
-        | inl a ↦ forces_more c (take head steps) (take head steps) (take head steps) (take head steps ++ forced turned (length clauses) ∷ []) (λ l t. t) (true_left (take head steps) (forced turned (length clauses) ∷ [])) (decision.closed c a)
-        | inr f ↦ subst (λ (k : List Literal). ForcesWithin k (take head steps) (take head steps ++ forced turned (length clauses) ∷ [])) f forces_turned
+        | inl a ↦ forces_more c (take start steps) (take start steps) (take start steps) (take start steps ++ forced turned (length clauses) ∷ []) (λ l t. t) (true_left (take start steps) (forced turned (length clauses) ∷ [])) (decision.closed c a)
+        | inr f ↦ subst (λ (k : List Literal). ForcesWithin k (take start steps) (take start steps ++ forced turned (length clauses) ∷ [])) f forces_turned
       ])
 
-  pub known_back : (x : ℕ) → x < (literal_at steps head).variable → HasValue (take head steps ++ forced turned (length clauses) ∷ []) x
+  pub known_back : (x : ℕ) → x < (literal_at steps start).variable → HasValue (take start steps ++ forced turned (length clauses) ∷ []) x
   known_back x h = elim (decision.least x h) [
-    | inl t ↦ inl (true_left (take head steps) (forced turned (length clauses) ∷ []) (is_true x) t)
-    | inr t ↦ inr (true_left (take head steps) (forced turned (length clauses) ∷ []) (is_false x) t)
+    | inl t ↦ inl (true_left (take start steps) (forced turned (length clauses) ∷ []) (is_true x) t)
+    | inr t ↦ inr (true_left (take start steps) (forced turned (length clauses) ∷ []) (is_false x) t)
   ]
 
   pub clause_below : AreClausesBelow n clauses → AreBelow n clause
   clause_below below = all_of (λ m. m.variable < n) clause (λ m c. elim (contains_head turned parts m c) [
     | inl e ↦ subst (λ (k : Literal). k.variable < n) e (steps_below below search start last.inside)
     | inr k ↦ (
-        let (q, a, t, f) = tracing.stands m k in
-        let x = tracing.inside in let y = last.inside in
+        let (q, a, r, f) = parts_turned.stands m k in
+        let y = last.inside in
         subst (λ v. v < n) (ap (λ (k : Literal). k.variable) f) (steps_below below search q (omega arith)))
   ])

@@ -8,7 +8,7 @@ use Rattle.px_sat.specs.declared.step.Step.{Step}
 use Rattle.px_sat.specs.Logs.{is_true, is_false, IsClause}
 use Rattle.px_sat.specs.Steps.{literals, HasValue, NoneHas, taken}
 use Rattle.px_sat.proofs.StepLemmas.{place_of}
-use Rattle.px_sat.proofs.TraceLemmas.{apart_push}
+use Rattle.px_sat.proofs.DecisionLemmas.{apart_push}
 use Rattle.px_sat.proofs.AcceptLemmas.{apart_at}
 
 module _ (n : ℕ) (clause : List Literal) (seen : List Step) (i : ℕ) (d : Literal) (h : i < length clause) (same : literals seen ≡ take i clause) where

@@ -6,8 +6,7 @@ pub mod LeftLemmas
 pub mod ForceLemmas
 pub mod PropagateLemmas
 pub mod SearchLemmas
-pub mod TraceLemmas
-pub mod MarkLemmas
+pub mod DecisionLemmas
 pub mod ForcedLemmas
 pub mod ReachedLemmas
 pub mod TurnLemmas

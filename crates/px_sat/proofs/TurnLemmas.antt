@@ -1,5 +1,5 @@
 -- The clause that a conflict gives follows, and turns the last decision.
-use Rattle.std.proofs.Common.{◌≡◌, ◌≢◌, ℕ, zero, suc, ◌+◌, ◌<◌, Bool, false, true, List, [], ◌∷◌, Some, None, Option, refl, sym, ap, ◌∙◌, subst, length, take, get_or, inl, inr, arith}
+use Rattle.std.proofs.Common.{◌≡◌, ◌≢◌, ℕ, zero, suc, ◌<◌, List, [], ◌∷◌, Some, None, Option, refl, sym, ap, ◌∙◌, subst, length, take, inl, inr, arith}
 use Rattle.std.specs.List.{Contains, All, slice_get}
 use Rattle.std.proofs.lemmas.Bool.{cases_eq, cases_lt}
 use Rattle.std.proofs.lemmas.List.{length-take, length-append}
@@ -9,8 +9,8 @@ use Rattle.px_cnf.specs.Clauses.{negated, Forced, is_given, by_unit, IsFalsified
 use Rattle.px_cnf.specs.declared.literal.Literal.{Literal}
 use Rattle.px_sat.specs.declared.step.Step.{Step}
 use Rattle.px_sat.specs.Logs.{is_true, IsDenied, Follows, AreApart, IsDecided, IsTurn}
-use Rattle.px_sat.specs.Steps.{literals, literal_at, IsTrue, AreSteps, begun, takes, forces, IsFalseAt, HasNoEmpty, taken, forced}
-use Rattle.px_sat.specs.Searches.{IsSearch, IsLastTaken, AreReasons, IsTracing, IsTracedFrom, AreMarked, reason_at}
+use Rattle.px_sat.specs.Steps.{literals, literal_at, IsTrue, AreDistinct, AreSteps, begun, takes, forces, IsFalseAt, HasNoEmpty, taken, forced}
+use Rattle.px_sat.specs.Searches.{IsSearch, IsLastTaken, AreReasons, AreTurned, reason_at}
 use Rattle.px_sat.proofs.StepLemmas.{place_of, true_at, at_taken}
 use Rattle.px_sat.proofs.ReachedLemmas.{LastTurn, last_turn, reason_last, reason_left, sound_forced}
 
@@ -25,36 +25,36 @@ pub all_of : {A : Type 0} (P : A → Type 0) (xs : List A) → ((x : A) → Cont
 all_of P [] f = All-nil P
 all_of P (x ∷ xs) f = All-cons P x xs (f x (0, omega arith, refl)) (all_of P xs (λ y (i, h, e). f y (suc i, omega arith, e)))
 
-module _ (clauses : List (List Literal)) (steps : List Step) (start at : ℕ) (marked : List Bool) (parts : List Literal) (low : ℕ)
-    (tracing : IsTracing steps start marked parts low) (traced : IsTracedFrom clauses steps marked (start + 1))
-    (conflict : (clause : List Literal) → slice_get clauses at ≡ Some clause → AreMarked steps marked clause)
-    (reasons : AreReasons clauses steps) (last : IsLastTaken steps start) (falsified : IsFalseAt clauses steps at) where
+module _ (clauses : List (List Literal)) (steps : List Step) (start at : ℕ) (parts : List Literal) (distinct : AreDistinct steps)
+    (parts_turned : AreTurned steps start parts) (reasons : AreReasons clauses steps) (last : IsLastTaken steps start) (falsified : IsFalseAt clauses steps at) where
   abbrev pub turn : List Literal
   turn = negated (literal_at steps start) ∷ parts
 
-  -- a step that a clause forced, where the marked steps before it are forced
-  by_reason : (p : ℕ) → start < p → p < length steps → get_or marked p false ≡ true → ((q : ℕ) → q < p → q < length steps → get_or marked q false ≡ true → Forced clauses (IsDenied turn) (literal_at steps q))
-      → (r : Option ℕ) → reason_at steps p ≡ r → reason_at steps p ≢ None → Forced clauses (IsDenied turn) (literal_at steps p)
-  by_reason p late i m before None e some = absurd (some e)
-  by_reason p late i m before (Some k) e some =
+  -- a step that was taken
+  by_denial : (p : ℕ) → p < length steps → reason_at steps p ≡ None → Forced clauses (IsDenied turn) (literal_at steps p)
+  by_denial p i none = elim (cases_lt p start) [
+    | inl early ↦ is_given (let (k, n, e) = parts_turned.found p early none in (suc k, omega arith, e))
+    | inr late ↦ (elim (cases_eq p start) [
+      | inl e ↦ is_given (0, omega arith, ap (λ q. negated (literal_at steps q)) (sym e))
+      | inr d ↦ absurd (last.after p (omega arith) i none)
+    ])
+  ]
+
+  -- a step that a clause forced, where the steps before it are forced
+  by_reason : (p : ℕ) → p < length steps → ((q : ℕ) → q < p → Forced clauses (IsDenied turn) (literal_at steps q))
+      → (r : Option ℕ) → reason_at steps p ≡ r → Forced clauses (IsDenied turn) (literal_at steps p)
+  by_reason p i before None e = by_denial p i e
+  by_reason p i before (Some k) e =
       let r = reasons p k i e in
       by_unit r.clause (found_in clauses r.clause k r.stands) r.there (λ x c d.
       let (q, n, f) = place_of (take p steps) (negated x) (r.others x c d) in
       let l = length-take p steps in
-      let g : literal_at steps q ≡ negated x = sym (at_taken steps p q (omega arith)) ∙ f in
-      subst (Forced clauses (IsDenied turn)) g
-      (before q (omega arith) (omega arith) (traced p k r.clause (omega arith) i m e r.stands q x (omega arith) c (ap (λ (y : Literal). y.variable) g))))
+      subst (Forced clauses (IsDenied turn)) (sym (at_taken steps p q (omega arith)) ∙ f) (before q (omega arith)))
 
-  -- each marked step is forced where the clause is denied
-  forced_below : (b p : ℕ) → p < b → p < length steps → get_or marked p false ≡ true → Forced clauses (IsDenied turn) (literal_at steps p)
-  forced_below zero p h i m = absurd (omega arith)
-  forced_below (suc b) p h i m = elim (cases_lt p start) [
-    | inl early ↦ is_given (let (k, n, e) = tracing.found p early m in (suc k, omega arith, e))
-    | inr late ↦ (elim (cases_eq p start) [
-      | inl e ↦ is_given (0, omega arith, ap (λ q. negated (literal_at steps q)) (sym e))
-      | inr d ↦ by_reason p (omega arith) i m (λ q a c n. forced_below b q (omega arith) c n) (reason_at steps p) refl (last.after p (omega arith) i)
-    ])
-  ]
+  -- each step is forced where the clause is denied
+  forced_below : (b p : ℕ) → p < b → p < length steps → Forced clauses (IsDenied turn) (literal_at steps p)
+  forced_below zero p h i = absurd (omega arith)
+  forced_below (suc b) p h i = by_reason p i (λ q a. forced_below b q (omega arith) (omega arith)) (reason_at steps p) refl
 
   pub turn_follows : Follows clauses turn
   turn_follows = record {
@@ -62,18 +62,17 @@ module _ (clauses : List (List Literal)) (steps : List Step) (start at : ℕ) (m
     stands = found_in clauses falsified.clause at falsified.stands;
     is_false = λ m c.
         let (q, n, e) = place_of steps (negated m) (falsified.is_false m c) in
-        subst (Forced clauses (IsDenied turn)) e (forced_below (suc q) q (omega arith) n (conflict falsified.clause falsified.stands q m n c (ap (λ (l : Literal). l.variable) e)));
+        subst (Forced clauses (IsDenied turn)) e (forced_below (suc q) q (omega arith) n);
   }
 
   -- no variable stands twice
   part_apart : (m : Literal) → Contains parts m → m.variable ≢ (literal_at steps start).variable
   part_apart m c e =
-      let (p, h, t, f) = tracing.stands m c in
-      let g : p ≡ start = tracing.distinct p start (let a = tracing.inside in let b = last.inside in omega arith) last.inside (ap (λ (l : Literal). l.variable) f ∙ e) in
-      let a = tracing.inside in omega arith
+      let (p, h, r, f) = parts_turned.stands m c in
+      let g : p ≡ start = distinct p start (let b = last.inside in omega arith) last.inside (ap (λ (l : Literal). l.variable) f ∙ e) in omega arith
 
   pub turn_apart : AreApart turn
-  turn_apart = (all_of (λ m. m.variable ≢ (literal_at steps start).variable) parts part_apart, tracing.apart)
+  turn_apart = (all_of (λ m. m.variable ≢ (literal_at steps start).variable) parts part_apart, parts_turned.apart)
 
   module _ (n : ℕ) (search : IsSearch n clauses steps) (below : AreClausesBelow n clauses) (filled : HasNoEmpty clauses) where
     turned : LastTurn n clauses steps start
@@ -93,8 +92,7 @@ module _ (clauses : List (List Literal)) (steps : List Step) (start at : ℕ) (m
         other : (m : Literal) → Contains turn m → m ≢ is_true (literal_at steps start).variable → Forced clauses (IsDecided turned.decided) (negated m)
         other m (zero, h, e) d = absurd (d (sym e ∙ head))
         other m (suc i, h, e) d =
-            let (p, k, t, f) = tracing.stands m (i, omega arith, e) in
-            let g = tracing.inside in
+            let (p, k, r, f) = parts_turned.stands m (i, omega arith, e) in
             let l = length-take start steps in let q = last.inside in
             turned.before (negated m) (subst (IsTrue (take start steps)) (at_taken steps start p (omega arith) ∙ f) (true_at (take start steps) p (omega arith)))
 

@@ -1,12 +1,12 @@
 -- What the parts of a search say of the steps.
-use Rattle.std.specs.Prelude.{◌≡◌, ◌≢◌, ℕ, ◌-◌, ◌<◌, ◌≤◌, Bool, true, false, List, [], ◌∷◌, ◌++◌, Contains, Option, None, Some, length, take, slice_get, slice_index_or, ◌⊎◌}
+use Rattle.std.specs.Prelude.{◌≡◌, ◌≢◌, ℕ, ◌<◌, false, List, [], ◌∷◌, ◌++◌, Contains, Option, None, Some, length, take, slice_get, slice_index_or, ◌⊎◌}
 use Rattle.px_cnf.specs.Clauses.{negated}
 use Rattle.px_cnf.specs.declared.literal.Literal.{Literal}
 use Rattle.px_sat.specs.declared.step.Step.{Step}
 use Rattle.px_sat.specs.declared.propagating.Left.{Left}
 use Rattle.px_sat.specs.declared.propagating.Left.TheVariants.{Nothing, One, More}
 use Rattle.px_sat.specs.declared.deciding.Point.{Point}
-use Rattle.px_sat.specs.Steps.{IsTrue, IsNew, HasValue, IsReason, forced, literal_at, AreDistinct, IsClosed, IsClosedTo, AreSteps}
+use Rattle.px_sat.specs.Steps.{IsTrue, IsNew, HasValue, IsReason, forced, literal_at, IsClosed, IsClosedTo, AreSteps}
 use Rattle.px_sat.specs.Logs.{AreApart, IsClause, Follows, IsTurn}
 
 -- steps that clauses force come after the others
@@ -45,51 +45,19 @@ pub record IsLastTaken (steps : List Step) (p : ℕ) : Type 0 where
   pub taken : reason_at steps p ≡ None
   pub after : (q : ℕ) → p < q → q < length steps → reason_at steps q ≢ None
 
--- Literals that were false before the step at `start` was taken, each the negation of a marked step; the clause so far is that
--- step's negation and these. `low` is the place behind the last of their steps.
-pub record IsTracing (steps : List Step) (start : ℕ) (marked : List Bool) (parts : List Literal) (low : ℕ) : Type 0 where
-  pub distinct : AreDistinct steps
-  pub placed : start < length steps
-  pub all : length marked ≡ length steps
-  -- each part stands for a marked step
-  pub stands : (m : Literal) → Contains parts m → (p : ℕ) × (p < low) × (slice_index_or marked p false ≡ true) × (literal_at steps p ≡ negated m)
-  -- each marked step before the start has a part
-  pub found : (p : ℕ) → p < start → slice_index_or marked p false ≡ true → Contains parts (negated (literal_at steps p))
+-- the negations of the literals that were taken before a place
+pub record AreTurned (steps : List Step) (start : ℕ) (parts : List Literal) : Type 0 where
+  -- each is of one of them
+  pub stands : (m : Literal) → Contains parts m → (p : ℕ) × (p < start) × (reason_at steps p ≡ None) × (literal_at steps p ≡ negated m)
+  -- each of them has one
+  pub found : (p : ℕ) → p < start → reason_at steps p ≡ None → Contains parts (negated (literal_at steps p))
   pub apart : AreApart parts
-  pub inside : low ≤ start
-  pub last : 0 < low → (m : Literal) × Contains parts m × (literal_at steps (low - 1) ≡ negated m)
-
--- before the start the literal can be nothing but false
-abbrev pub IsFalseBefore : List Step → ℕ → Literal → Type 0
-IsFalseBefore steps start m = (p : ℕ) → p < start → p < length steps → (literal_at steps p).variable ≡ m.variable → literal_at steps p ≡ negated m
-
--- the step of each of the clause's literals is marked
-abbrev pub AreMarked : List Step → List Bool → List Literal → Type 0
-AreMarked steps marked clause = (p : ℕ) (m : Literal) → p < length steps → Contains clause m → (literal_at steps p).variable ≡ m.variable → slice_index_or marked p false ≡ true
-
--- the steps of the clause's literals are marked beside those that were
-pub record Marks (steps : List Step) (clause : List Literal) (old new : List Bool) : Type 0 where
-  pub keeps : (p : ℕ) → slice_index_or old p false ≡ true → slice_index_or new p false ≡ true
-  pub marked : AreMarked steps new clause
-  pub only : (p : ℕ) → slice_index_or new p false ≡ true → (slice_index_or old p false ≡ true) ⊎ ((m : Literal) × Contains clause m × ((literal_at steps p).variable ≡ m.variable))
-
--- the clauses that forced marked steps are marked, from this place on
-abbrev pub IsTracedFrom : List (List Literal) → List Step → List Bool → ℕ → Type 0
-IsTracedFrom clauses steps marked from = (p at : ℕ) (clause : List Literal) → from ≤ p → p < length steps → slice_index_or marked p false ≡ true
-    → reason_at steps p ≡ Some at → slice_get clauses at ≡ Some clause → AreMarked steps marked clause
 
 -- what forced a step stands before it
 abbrev pub AreReasons : List (List Literal) → List Step → Type 0
 AreReasons clauses steps = (p at : ℕ) → p < length steps → reason_at steps p ≡ Some at → IsReason clauses (take p steps) (literal_at steps p) at
 
--- the next step that was taken, from a place on
-pub record IsNextTaken (steps : List Step) (low p : ℕ) : Type 0 where
-  pub later : low ≤ p
-  pub inside : p < length steps
-  pub taken : reason_at steps p ≡ None
-  pub none : (q : ℕ) → low ≤ q → q < p → reason_at steps q ≢ None
-
--- A clause turned the last decision: it is one more clause and one more of the log, and the search goes on where it forces something.
+-- A clause turned the last decision: it is one more clause and one more of the log, and the search goes on where the last literal was taken.
 pub record IsTurned (n : ℕ) (old new : List (List Literal)) (log more : List (List Literal)) (steps : List Step) (point : Point) : Type 0 where
   pub clause : List Literal
   pub some : clause ≢ []

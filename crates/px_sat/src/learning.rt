@@ -1,33 +1,46 @@
-ghost use Rattle.std.specs.Prelude.{◌≡◌, ◌≤◌, [], ◌∷◌, ◌++◌, None, IfOk, IfSome};
+ghost use Rattle.std.specs.Prelude.{◌≡◌, ◌≢◌, ℕ, ◌<◌, ◌≤◌, [], ◌∷◌, ◌++◌, None, length, IfOk, IfSome, IfNone};
 ghost use Rattle.px_cnf.specs.Clauses.{AreClausesBelow};
 ghost use Rattle.px_sat.specs.Logs.{Follows, IsTurn};
-ghost use Rattle.px_sat.specs.Steps.{IsFalseAt, HasNoEmpty};
-ghost use Rattle.px_sat.specs.Searches.{IsSearch, IsLastTaken, IsNextTaken, IsTurned};
+ghost use Rattle.px_sat.specs.Steps.{AreDistinct, IsFalseAt, HasNoEmpty};
+ghost use Rattle.px_sat.specs.Searches.{reason_at, IsSearch, IsLastTaken, AreTurned, IsTurned};
 
 use crate::clauses::Clauses;
 use crate::deciding::Point;
 use crate::step::Step;
-use crate::tracing::{last_taken, traced};
 use crate::trail::Trail;
 use px_cnf::Literal;
 use px_terms::{Items, NoMemory};
 use std::alloc::Global;
 
-// The place of the first step that was taken, from a place on and up to the last.
-fn next_taken(trail: &Trail, low: usize, start: usize) -> usize
-    requires last { IsLastTaken trail.now start }
-    requires low { low ≤ start }
-    ensures next { IsNextTaken trail.now low result }
-    ensures early { result ≤ start }
+// The place of the last step that was taken, if there is one.
+fn last_taken(trail: &Trail) -> Option<usize>
+    ensures some { IfSome result (IsLastTaken trail.now) }
+    ensures none { IfNone result ((p : ℕ) → p < length trail.now → reason_at trail.now p ≢ None) }
 {
-    let mut place = low;
-    while place < start {
+    let mut place = trail.len();
+    while place > 0 {
+        place -= 1;
         if trail.get(place).reason.is_none() {
-            return place;
+            return Some(place);
         }
-        place += 1;
     }
-    start
+    None
+}
+
+// The negations of the literals that were taken before a place.
+fn turned_before(alloc: Global, trail: &Trail, start: usize) -> Result<Vec<Literal>, NoMemory>
+    requires distinct { AreDistinct trail.now }
+    requires inside { start ≤ length trail.now }
+    ensures { IfOk result (λ parts. AreTurned trail.now start parts.items) }
+{
+    let mut parts = Vec::new(alloc);
+    for place in 0..start {
+        let step = trail.get(place);
+        if step.reason.is_none() {
+            parts.push(step.literal.negated())?;
+        }
+    }
+    Ok(parts)
 }
 
 // A literal and others behind it.
@@ -40,8 +53,9 @@ fn joined(alloc: Global, first: Literal, others: &[Literal]) -> Result<Vec<Liter
     Ok(clause)
 }
 
-// Adds a clause that turns the last decision, where the clause at a place is false, and goes back to where it forces something.
-// Gives where the search goes on, or nothing where nothing was decided; then the log ends with the empty clause.
+// Adds the clause that not all literals that were taken are true, where the clause at a place is false, and goes back to where
+// the last was taken. Gives where the search goes on, or nothing where nothing was decided; then the log ends with the empty
+// clause.
 pub(crate) fn learn(
     alloc: Global,
     clauses: &mut Clauses,
@@ -61,18 +75,20 @@ pub(crate) fn learn(
         log.push(Items::new(alloc))?;
         return Ok(None);
     };
-    let trace = traced(alloc, clauses, trail, at, start)?;
-    let turned = trail.get(start).literal.negated();
-    let clause = joined(alloc, turned, &trace.parts)?;
-    let head = next_taken(trail, trace.low, start);
-    let first = trail.get(head).literal.variable;
+    let last = trail.get(start).literal;
+    let turned = last.negated();
+    let parts = turned_before(alloc, trail, start)?;
+    let clause = joined(alloc, turned, &parts)?;
     let reason = clauses.len();
     clauses.add(alloc, &clause)?;
-    trail.truncate(head);
+    trail.truncate(start);
     trail.push(Step {
         literal: turned,
         reason: Some(reason),
     })?;
     log.push(Items::from_vec(clause))?;
-    Ok(Some(Point { head, first }))
+    Ok(Some(Point {
+        head: start,
+        first: last.variable,
+    }))
 }

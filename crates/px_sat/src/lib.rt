@@ -9,7 +9,6 @@ mod learning;
 mod propagating;
 mod solving;
 mod step;
-mod tracing;
 mod trail;
 mod verdict;
 

@@ -29,9 +29,8 @@ fn values_of(alloc: Global, trail: &Trail, variables: u32) -> Result<Vec<bool>, 
 /// Searches for values by which every clause is true, until the log has so many clauses.
 ///
 /// It applies unit clauses until nothing changes, and else decides the least variable that has no value as false. Where a
-/// clause is false, the log gets one that turns the last decision (a learned clause of conflict-driven search, over that
-/// decision and what was known before it), and the search goes back to where that forces its variable. Memory is linear in
-/// the literals of the clauses and of the log.
+/// clause is false, the log gets the clause that not all decisions are right, which turns the last, and the search goes back to
+/// that one. Memory is linear in the literals of the clauses and of the log.
 pub fn solve(alloc: Global, cnf: &Cnf, conflicts: u32) -> Result<Verdict, NoMemory>
     requires { AreClausesBelow cnf.now.variables cnf.now.clauses }
     ensures { IfOk result (IsVerdict cnf.now.variables cnf.now.clauses conflicts) }

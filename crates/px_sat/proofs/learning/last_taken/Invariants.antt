@@ -1,6 +1,6 @@
 use Rattle.std.proofs.Common.{◌≢◌, ℕ, ◌<◌, ◌≤◌, None, length}
 use Rattle.px_sat.specs.Searches.{reason_at}
-use Rattle.px_sat.proofs.tracing.last_taken.Given as goal
+use Rattle.px_sat.proofs.learning.last_taken.Given as goal
 
 abbrev pub invariant-loop-place : goal.invariant-loop-place
 invariant-loop-place l = record {
