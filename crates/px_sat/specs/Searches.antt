@@ -1,5 +1,5 @@
 -- What the parts of a search say of the steps.
-use Rattle.std.specs.Prelude.{◌≡◌, ◌≢◌, ℕ, ◌<◌, false, List, [], ◌∷◌, ◌++◌, Contains, Option, None, Some, length, take, slice_get, slice_index_or, ◌⊎◌}
+use Rattle.std.specs.Prelude.{◌≡◌, ◌≢◌, ℕ, ◌<◌, false, List, [], ◌∷◌, ◌++◌, Contains, Option, None, Some, length, take, slice_index_or}
 use Rattle.px_cnf.specs.Clauses.{negated}
 use Rattle.px_cnf.specs.declared.literal.Literal.{Literal}
 use Rattle.px_sat.specs.declared.step.Step.{Step}
