@@ -9,7 +9,7 @@ use anyhow::{Context, Result, bail};
 use case_texts::expanded;
 use px_gen::sample;
 use px_io::MapFiles;
-use px_loading::load;
+use px_loading::load_profile;
 use px_syntax::Program;
 use std::alloc::Global;
 use std::collections::BTreeMap;
@@ -50,7 +50,7 @@ fn program_in(alloc: Global, text: Vec<u8>) -> Result<Loaded> {
     let mut files = MapFiles::new(alloc, contents, Vec::new(alloc));
     let mut names = Vec::new(alloc);
     names.push(String::from_str(alloc, FILE)?)?;
-    match load(alloc, &names, &mut files) {
+    match load_profile(alloc, &names, &mut files) {
         Ok(program) => Ok(Loaded { text, program }),
         Err(_) => bail!("no program"),
     }

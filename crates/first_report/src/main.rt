@@ -15,7 +15,7 @@ use px_findings::findings;
 use px_interval::Interval;
 use px_io::{Files, HostFiles, Sink, StreamSink, WordsFault, words, write_all};
 use px_lines::{Cause, Status, number_of, tell, told};
-use px_loading::{load, tell_fault};
+use px_loading::{load_profile, tell_fault};
 use px_order::Order;
 use px_parity::Parity;
 use px_syntax::Program;
@@ -73,7 +73,7 @@ fn checked<F: Files, K: Sink, E: Sink>(
     requires allowed { (name : List ℕ) → F.allows files.old name }
     requires few { length names.now.items ≤ most_files }
 {
-    match load(alloc, names, files) {
+    match load_profile(alloc, names, files) {
         Ok(program) => told(err, write_report(alloc, &program, limits, out)),
         Err(fault) => tell_fault(alloc, err, fault),
     }

@@ -8,6 +8,8 @@ pub struct Check {
     pub limits: Limits,
     /// From 1 to 64 files, in the order of the words.
     pub names: Vec<String>,
+    /// Whether they are read as preprocessed C.
+    pub real: bool,
     pub pool: Pool,
     /// Whether it is told how much workers and the parent published, and how often workers were lost.
     pub stats: bool,

@@ -7,6 +7,8 @@ ghost use Rattle.px_syntax.specs.ProgramTree.{program_tree};
 ghost use Rattle.px_lines.specs.declared.status.Status.TheVariants as Statuses;
 ghost use Rattle.px_lines.specs.Lines.{out_of_memory_line};
 ghost use Rattle.px_lines.specs.Sinks.{change, Tells, WasCut};
+ghost use Rattle.px_loading.specs.declared.language.Language.{Language};
+ghost use Rattle.px_loading.specs.Languages.{language_of};
 ghost use Rattle.px_loading.specs.Stops.{GivesAll};
 ghost use Rattle.px_loading.specs.Refusals.{HasLines, SaysAlone};
 ghost use Rattle.px_checking.specs.Kinds.{AreOwnKinds};
@@ -18,7 +20,7 @@ use crate::asked::Check;
 use crate::checking::{Rendered, check};
 use px_io::{Failed, Files, Sink, write_all};
 use px_lines::{Cause, Status, tell};
-use px_loading::{load, tell_fault};
+use px_loading::{language, load, tell_fault};
 use px_pool::{Link, Spawner};
 use px_syntax::Program;
 use px_terms::{Domain, NoMemory};
@@ -46,14 +48,14 @@ pub fn check_files<R: Threads + Wait + Sync, S: Spawner, W: Form, F: Files, K: S
     requires few { length asked.now.names.items ≤ most_files }
     requires kinds { AreOwnKinds (map (λ b. number b) domains.old.items) }
     requires clear { All (λ b. holds b []) domains.old.items }
-    ensures answers { (given : List Given) × GivesAll F.told F.count F.gives files.old files.new (texts asked.now.names.items) given × Answers (pooled_way asked.now.limits (W.written form.now) asked.now.pool.workers asked.now.stats asked.now.more S.Link.Word.says (S.told spawner.old) (S.told spawner.new)) (map (λ b. number b) domains.old.items) (texts asked.now.names.items) given (change K.told K.count out.old out.new) (change E.told E.count err.old err.new) (err.new ≡ err.old) result × HasLines (texts asked.now.names.items) given (change E.told E.count err.old err.new) result }
+    ensures answers { (given : List Given) × GivesAll F.told F.count F.gives files.old files.new (texts asked.now.names.items) given × Answers (language_of asked.now.real) (pooled_way asked.now.limits (W.written form.now) asked.now.pool.workers asked.now.stats asked.now.more S.Link.Word.says (S.told spawner.old) (S.told spawner.new)) (map (λ b. number b) domains.old.items) (texts asked.now.names.items) given (change K.told K.count out.old out.new) (change E.told E.count err.old err.new) (err.new ≡ err.old) result × HasLines (language_of asked.now.real) (texts asked.now.names.items) given (change E.told E.count err.old err.new) result }
     ensures quiet { result ≡ Statuses.Unread ⊎ (result ≡ Statuses.Refused ⊎ result ≡ Statuses.NoMemory) → out.new ≡ out.old }
     ensures ended { S.links spawner.new ≡ S.links spawner.old }
     ensures unasked { asked.now.pool.workers ≡ 0 → spawner.new ≡ spawner.old }
     ensures clear { All (λ b. holds b []) domains.new.items }
     ensures kinds { map (λ b. number b) domains.new.items ≡ map (λ b. number b) domains.old.items }
 {
-    match load(alloc, &asked.names, files) {
+    match load(alloc, language(asked.real), &asked.names, files) {
         Ok(program) => {
             check_program(rt, alloc, asked, &program, form, out, err, spawner, domains)
         }
@@ -76,7 +78,7 @@ fn check_program<R: Threads + Wait + Sync, S: Spawner, W: Form, K: Sink, E: Sink
     requires program { IsAnalysable (program_tree program.now) }
     requires kinds { AreOwnKinds (map (λ b. number b) domains.old.items) }
     requires clear { All (λ b. holds b []) domains.old.items }
-    ensures answers { (names : List (List ℕ)) (given : List Given) → SaysAlone names given (program_tree program.now) → Answers (pooled_way asked.now.limits (W.written form.now) asked.now.pool.workers asked.now.stats asked.now.more S.Link.Word.says (S.told spawner.old) (S.told spawner.new)) (map (λ b. number b) domains.old.items) names given (change K.told K.count out.old out.new) (change E.told E.count err.old err.new) (err.new ≡ err.old) result }
+    ensures answers { (l : Language) (names : List (List ℕ)) (given : List Given) → SaysAlone l names given (program_tree program.now) → Answers l (pooled_way asked.now.limits (W.written form.now) asked.now.pool.workers asked.now.stats asked.now.more S.Link.Word.says (S.told spawner.old) (S.told spawner.new)) (map (λ b. number b) domains.old.items) names given (change K.told K.count out.old out.new) (change E.told E.count err.old err.new) (err.new ≡ err.old) result }
     ensures known { (result ≡ Statuses.Done ⊎ result ≡ Statuses.Bug) ⊎ (result ≡ Statuses.Unwritten ⊎ result ≡ Statuses.NoMemory) }
     ensures memory { result ≡ Statuses.NoMemory → Tells (change E.told E.count err.old err.new) out_of_memory_line }
     ensures quiet { result ≡ Statuses.NoMemory → out.new ≡ out.old }

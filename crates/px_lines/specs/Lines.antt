@@ -8,7 +8,7 @@ line_feed = 10 ∷ []
 
 abbrev pub usage_text : List ℕ
 usage_text =
-    codes "usage: pulsex check [--unroll K] [--paths N] [--nodes N] [--workers W] [--exec PATH] [--kept PATH] [--json] [--stats] [--bits K] [--leaks] FILE.." ++ (line_feed
+    codes "usage: pulsex check [--unroll K] [--paths N] [--nodes N] [--workers W] [--exec PATH] [--kept PATH] [--json] [--stats] [--bits K] [--leaks] [--real] FILE.." ++ (line_feed
     ++ (codes "       pulsex keep [--unroll K] [--paths N] [--nodes N] FILE.." ++ (line_feed
     ++ (codes "       pulsex worker" ++ (line_feed
     ++ (codes "       pulsex sample START N" ++ line_feed))))))

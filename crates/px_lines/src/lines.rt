@@ -10,7 +10,7 @@ use itoa::Buffer;
 use px_io::{Failed, Sink, write_all};
 
 const USAGE: &str =
-    "usage: pulsex check [--unroll K] [--paths N] [--nodes N] [--workers W] [--exec PATH] [--kept PATH] [--json] [--stats] [--bits K] [--leaks] FILE..\n       pulsex keep [--unroll K] [--paths N] [--nodes N] FILE..\n       pulsex worker\n       pulsex sample START N\n";
+    "usage: pulsex check [--unroll K] [--paths N] [--nodes N] [--workers W] [--exec PATH] [--kept PATH] [--json] [--stats] [--bits K] [--leaks] [--real] FILE..\n       pulsex keep [--unroll K] [--paths N] [--nodes N] FILE..\n       pulsex worker\n       pulsex sample START N\n";
 
 /// The status of a run that ended so: for a cause, which it tells, or as it was to end.
 pub fn told<E: Sink>(err: &mut E, ended: Result<Status, Cause>) -> Status

@@ -7,7 +7,7 @@ use crate::listing::listing;
 use px_checking::Check;
 use px_io::{Files, Sink, WordsFault, write_all};
 use px_lines::{Cause, Status, tell, tell_line, told};
-use px_loading::{load, tell_fault};
+use px_loading::{load_profile, tell_fault};
 use px_syntax::Program;
 use px_terms::{Domain, NoMemory};
 use px_top::{ReportAsked, options};
@@ -45,7 +45,7 @@ pub fn run<F: Files, K: Sink, E: Sink>(
     }
 }
 
-// Whether no more than limits and files are asked for: there is no JSON of a listing, no help with it, of workers or of kept summaries, no count, and nothing after it.
+// Whether no more than limits and files are asked for: there is no JSON of a listing, none of preprocessed C, no help with it, of workers or of kept summaries, no count, and nothing after it.
 fn is_plain(asked: &ReportAsked) -> bool {
     let is_alone = asked.check.pool.workers == 0 && asked.check.pool.program.is_none();
     is_alone
@@ -53,6 +53,7 @@ fn is_plain(asked: &ReportAsked) -> bool {
         && !asked.check.stats
         && asked.check.more.bits.is_none()
         && !asked.check.more.leaks
+        && !asked.check.real
         && asked.kept.is_none()
 }
 
@@ -74,7 +75,7 @@ fn list<F: Files, K: Sink, E: Sink>(
     requires few { length asked.now.names.items ≤ most_files }
     requires clear { All (λ b. holds b []) domains.old.items }
 {
-    match load(alloc, &asked.names, files) {
+    match load_profile(alloc, &asked.names, files) {
         Ok(program) => told(err, write_listing(alloc, &program, asked, out, domains)),
         Err(fault) => tell_fault(alloc, err, fault),
     }

@@ -28,6 +28,7 @@ use Rattle.px_text_report.specs.Places.{comes_before}
 use Rattle.px_programs.specs.Laws.{AreInOrder}
 use Rattle.px_programs.proofs.Lists.{all_first, all_second, all_change}
 use Rattle.px_programs.proofs.ProgramsTyped.{numbers}
+use Rattle.px_loading.specs.declared.language.Language.TheVariants.{Profile}
 use Rattle.px_loading.specs.Inputs.{AreFilesOf}
 use Rattle.px_loading.specs.Order.{AreInPlaceOrder, LeftInOrder}
 use Rattle.px_loading.proofs.PlaceOrder.{place_before}
@@ -247,7 +248,7 @@ across n (s ∷ ss) ts h k = (all_change (λ (t : Site). n + 1 ≤ t.file) (Befo
 abbrev AreOrderedFrom : ℕ → List Site → Type 0
 AreOrderedFrom n ss = AreInPlaceOrder ss × AllByRecursion (λ (s : Site). n ≤ s.file) ss
 
-files_ordered : (n : ℕ) (names sources : List (List ℕ)) (files : List FileTree) → AreFilesOf n names sources files → AreOrderedFrom n (map site_of (flat_map (λ (f : FileTree). f.items) files))
+files_ordered : (n : ℕ) (names sources : List (List ℕ)) (files : List FileTree) → AreFilesOf Profile n names sources files → AreOrderedFrom n (map site_of (flat_map (λ (f : FileTree). f.items) files))
 files_ordered n [] [] [] h = (tt, tt)
 files_ordered n [] [] (file ∷ files) h = absurd h
 files_ordered n [] (source ∷ sources) files h = absurd h
@@ -264,6 +265,6 @@ files_ordered n (name ∷ names) (source ∷ sources) (file ∷ files) h =
           (all_change (λ (s : Site). n + 1 ≤ s.file) (λ (s : Site). n ≤ s.file) (λ s l. omega (arith, l)) remaining rest.1),
     )
 
-pub left_ordered : LeftInOrder
+pub left_ordered : LeftInOrder Profile
 left_ordered names sources P (files, read, is, few) =
     subst (λ (Q : ProgramTree). AreInPlaceOrder (map (λ (l : Left). l.site) Q.left)) (sym is) ((numbers files).left comes_before (files_ordered 0 names sources files read).0)

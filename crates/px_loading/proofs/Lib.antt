@@ -1,4 +1,5 @@
 pub mod Loops
+mod OneReading
 mod OneProgram
 mod PlaceOrder
 mod ItemOrder

@@ -1,17 +1,17 @@
 -- What the loops over the files keep.
-use Rattle.std.proofs.Common.{◌≡◌, ◌≢◌, ℕ, zero, suc, ◌+◌, ◌<◌, ◌≤◌, List, [], ◌∷◌, ◌++◌, length, length-append, get_or, take, map, Option, Some, None, refl, sym, ap, ◌∙◌, subst, arith, Vec, Global, String, Result, Ok, Err, inl, inr}
+use Rattle.std.proofs.Common.{◌≡◌, ◌≢◌, ℕ, zero, suc, ◌+◌, ◌<◌, ◌≤◌, List, [], ◌∷◌, ◌++◌, length, length-append, get_or, take, drop, map, Option, Some, None, refl, sym, ap, ◌∙◌, subst, arith, Vec, Global, String, Result, Ok, Err, inl, inr}
 use Rattle.std.specs.Prelude.{slice_get, IfOk, IfErr}
 use Rattle.std.proofs.lemmas.Bool.{cases_lt}
 use Rattle.std.specs.List.{AllByRecursion}
 use Rattle.std.specs.String.{string_bytes}
-use Rattle.std.proofs.lemmas.List.{take_more, map_push, take-map}
+use Rattle.std.proofs.lemmas.List.{take_more, map_push, take-map, take_all}
 use Rattle.std.proofs.lemmas.Option.{same_Some}
-use Rattle.px_reading.specs.Sources.{IsFileOf}
-use Rattle.px_syntax.specs.ParsedTree.{FileTree}
 use Rattle.px_base.specs.Texts.{texts}
 use Rattle.px_io.specs.declared.files.FileFault.TheVariants as F
 use Rattle.px_io.specs.declared.files.FileFault.{FileFault}
 use Rattle.px_io.specs.Reads.{Given, given_of, Reads}
+use Rattle.px_loading.specs.declared.language.Language.{Language}
+use Rattle.px_loading.specs.Languages.{FileIn, Reads as ReadsAs}
 use Rattle.px_loading.specs.Inputs.{Agrees, AgreeAll, AreFilesOf, most_bytes, sources_of, fault_of}
 use Rattle.px_io.specs.Faults.{RoseOnce, HasCauseOf}
 use Rattle.px_loading.specs.Stops.{all_read, CountsFailed, GivesAll}
@@ -35,6 +35,17 @@ map_at f (x ∷ xs) (suc i) d k = map_at f xs i d (omega (arith, k))
 
 pub map_more : {A B : Type 0} (f : A → B) (xs : List A) (i : ℕ) (d : A) → i < length xs → take (i + 1) (map f xs) ≡ take i (map f xs) ++ f (get_or xs i d) ∷ []
 map_more f xs i d k = take-map f (i + 1) xs ∙ ap (map f) (take_more xs i d k) ∙ map_push f (take i xs) (get_or xs i d) ∙ ap (λ z. z ++ f (get_or xs i d) ∷ []) (sym (take-map f i xs))
+
+-- what is left of a list from a place on, where something is
+pub here_in : {A : Type 0} (xs : List A) (n : ℕ) (x : A) (rest : List A) (d : A) → drop n xs ≡ x ∷ rest → (n < length xs) × (get_or xs n d ≡ x) × (drop (suc n) xs ≡ rest)
+here_in [] zero x rest d e = absurd cc
+here_in [] (suc n) x rest d e = absurd cc
+here_in (y ∷ xs) zero x rest d e = (omega arith, (let z : y ≡ x = cc in z), (let z : xs ≡ rest = cc in z))
+here_in (y ∷ xs) (suc n) x rest d e = let r = here_in xs n x rest d e in ((let k = r.0 in omega (arith, k)), r.1, r.2)
+
+-- where nothing is left, all is taken
+pub all_in : {A : Type 0} (xs : List A) (n : ℕ) → length xs ≤ n → take n xs ≡ xs
+all_in xs n h = take_all n xs h
 
 -- ---- what reads give
 
@@ -120,15 +131,15 @@ sources_short told (n ∷ names) (s ∷ sources) h = (h.0.1, sources_short told 
 
 -- ---- the items of files
 
-files_push : (n : ℕ) (names sources : List (List ℕ)) (files : List FileTree) (name source : List ℕ) (file : FileTree) →
-    AreFilesOf n names sources files → IsFileOf (n + length names) name source file → AreFilesOf n (names ++ name ∷ []) (sources ++ source ∷ []) (files ++ file ∷ [])
-files_push n [] [] [] name source file h k = (subst (λ m. IsFileOf m name source file) (let e : n + 0 ≡ n = omega arith in e) k, tt)
-files_push n [] [] (f ∷ files) name source file h k = absurd h
-files_push n [] (s ∷ sources) files name source file h k = absurd h
-files_push n (m ∷ names) [] files name source file h k = absurd h
-files_push n (m ∷ names) (s ∷ sources) [] name source file h k = absurd h
-files_push n (m ∷ names) (s ∷ sources) (f ∷ files) name source file h k =
-    (h.0, files_push (n + 1) names sources files name source file h.1 (subst (λ x. IsFileOf x name source file) (let e : n + suc (length names) ≡ n + 1 + length names = omega arith in e) k))
+files_push : (l : Language) (n : ℕ) (names sources : List (List ℕ)) (files : List (FileIn l)) (name source : List ℕ) (file : FileIn l) →
+    AreFilesOf l n names sources files → ReadsAs l (n + length names) name source file → AreFilesOf l n (names ++ name ∷ []) (sources ++ source ∷ []) (files ++ file ∷ [])
+files_push l n [] [] [] name source file h k = (subst (λ m. ReadsAs l m name source file) (let e : n + 0 ≡ n = omega arith in e) k, tt)
+files_push l n [] [] (f ∷ files) name source file h k = absurd h
+files_push l n [] (s ∷ sources) files name source file h k = absurd h
+files_push l n (m ∷ names) [] files name source file h k = absurd h
+files_push l n (m ∷ names) (s ∷ sources) [] name source file h k = absurd h
+files_push l n (m ∷ names) (s ∷ sources) (f ∷ files) name source file h k =
+    (h.0, files_push l (n + 1) names sources files name source file h.1 (subst (λ x. ReadsAs l x name source file) (let e : n + suc (length names) ≡ n + 1 + length names = omega arith in e) k))
 
 length_taken : {A : Type 0} (xs : List A) (i : ℕ) → i < length xs → length (take i xs) ≡ i
 length_taken [] i k = absurd (omega (arith, k))
@@ -139,18 +150,18 @@ pub length_mapped : {A B : Type 0} (f : A → B) (xs : List A) → length (map f
 length_mapped f [] = refl
 length_mapped f (x ∷ xs) = ap suc (length_mapped f xs)
 
-pub file_more : {A : Type 0} (view : A → FileTree) (names : List (String Global)) (sources : List (Vec ℕ Global)) (before after : List A) (file : A) (i : ℕ) (d : String Global) (b : Vec ℕ Global) →
+pub file_more : (l : Language) {A : Type 0} (view : A → FileIn l) (names : List (String Global)) (sources : List (Vec ℕ Global)) (before after : List A) (file : A) (i : ℕ) (d : String Global) (b : Vec ℕ Global) →
     i < length names → i < length sources →
-    AreFilesOf 0 (take i (texts names)) (take i (map (λ s. s.items) sources)) (map view before) → IsFileOf i (string_bytes (get_or names i d)) (get_or sources i b).items (view file) → after ≡ before ++ file ∷ [] →
-    AreFilesOf 0 (take (i + 1) (texts names)) (take (i + 1) (map (λ s. s.items) sources)) (map view after)
-file_more view names sources before after file i d b k l h here e =
+    AreFilesOf l 0 (take i (texts names)) (take i (map (λ s. s.items) sources)) (map view before) → ReadsAs l i (string_bytes (get_or names i d)) (get_or sources i b).items (view file) → after ≡ before ++ file ∷ [] →
+    AreFilesOf l 0 (take (i + 1) (texts names)) (take (i + 1) (map (λ s. s.items) sources)) (map view after)
+file_more l view names sources before after file i d b k m h here e =
     let name = string_bytes (get_or names i d) in
     let source = (get_or sources i b).items in
     let count : 0 + length (take i (texts names)) ≡ i = let z = length_taken (texts names) i (subst (λ n. i < n) (sym (length_mapped string_bytes names)) k) in omega (arith, z) in
-    let more = files_push 0 (take i (texts names)) (take i (map (λ s. s.items) sources)) (map view before) name source (view file) h (subst (λ n. IsFileOf n name source (view file)) (sym count) here) in
-    subst (λ ns. AreFilesOf 0 ns (take (i + 1) (map (λ s. s.items) sources)) (map view after)) (sym (map_more string_bytes names i d k))
-    (subst (λ ss. AreFilesOf 0 (take i (texts names) ++ name ∷ []) ss (map view after)) (sym (map_more (λ s. s.items) sources i b l))
-    (subst (λ fs. AreFilesOf 0 (take i (texts names) ++ name ∷ []) (take i (map (λ s. s.items) sources) ++ source ∷ []) fs) (sym (ap (map view) e ∙ map_push view before file)) more))
+    let more = files_push l 0 (take i (texts names)) (take i (map (λ s. s.items) sources)) (map view before) name source (view file) h (subst (λ n. ReadsAs l n name source (view file)) (sym count) here) in
+    subst (λ ns. AreFilesOf l 0 ns (take (i + 1) (map (λ s. s.items) sources)) (map view after)) (sym (map_more string_bytes names i d k))
+    (subst (λ ss. AreFilesOf l 0 (take i (texts names) ++ name ∷ []) ss (map view after)) (sym (map_more (λ s. s.items) sources i b m))
+    (subst (λ fs. AreFilesOf l 0 (take i (texts names) ++ name ∷ []) (take i (map (λ s. s.items) sources) ++ source ∷ []) fs) (sym (ap (map view) e ∙ map_push view before file)) more))
 
 -- ---- results
 

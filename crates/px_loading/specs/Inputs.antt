@@ -4,10 +4,9 @@ use Rattle.px_base.specs.Bounds.{most_procedures}
 use Rattle.px_io.specs.declared.files.FileFault.{FileFault}
 use Rattle.px_io.specs.declared.files.FileFault.TheVariants.{Long}
 use Rattle.px_io.specs.Reads.{Given}
-use Rattle.px_reading.specs.Sources.{IsFileOf}
-use Rattle.px_syntax.specs.ParsedTree.{FileTree}
 use Rattle.px_syntax.specs.ProgramTree.{ProgramTree}
-use Rattle.px_typing.specs.Programs.{program_of}
+use Rattle.px_loading.specs.declared.language.Language.{Language}
+use Rattle.px_loading.specs.Languages.{FileIn, Reads, said}
 
 -- the most bytes of a file, and the most functions that are kept
 abbrev pub most_bytes : ℕ
@@ -40,16 +39,16 @@ fault_of (Err fault ∷ given) = Some fault
 abbrev pub AreRead : List (List ℕ) → List Given → Type 0
 AreRead names given = (fault_of given ≡ None) × (length given ≡ length names)
 
--- each file, from this number on, is read as these items
-abbrev pub AreFilesOf : ℕ → List (List ℕ) → List (List ℕ) → List FileTree → Type 0
-AreFilesOf n [] [] [] = ⊤
-AreFilesOf n (name ∷ names) (source ∷ sources) (file ∷ files) = IsFileOf n name source file × AreFilesOf (n + 1) names sources files
-AreFilesOf n _ _ _ = ⊥
+-- each file, from this number on, is read as this
+abbrev pub AreFilesOf : (l : Language) → ℕ → List (List ℕ) → List (List ℕ) → List (FileIn l) → Type 0
+AreFilesOf l n [] [] [] = ⊤
+AreFilesOf l n (name ∷ names) (source ∷ sources) (file ∷ files) = Reads l n name source file × AreFilesOf l (n + 1) names sources files
+AreFilesOf l n _ _ _ = ⊥
 
--- what the files say: the program of their items, which doesn't keep too many functions
-abbrev pub Says : List (List ℕ) → List (List ℕ) → ProgramTree → Type 0
-Says names sources P = (files : List FileTree) × AreFilesOf 0 names sources files × (P ≡ program_of files) × (P.kept ≤ most_procedures)
+-- what files say that are so read: the program of what they are read as, which doesn't keep too many functions
+abbrev pub Says : Language → List (List ℕ) → List (List ℕ) → ProgramTree → Type 0
+Says l names sources P = (files : List (FileIn l)) × AreFilesOf l 0 names sources files × (P ≡ said l files) × (P.kept ≤ most_procedures)
 
 -- that, and nothing else
-abbrev pub SaysOnly : List (List ℕ) → List (List ℕ) → ProgramTree → Type 0
-SaysOnly names sources P = Says names sources P × ((Q : ProgramTree) → Says names sources Q → Q ≡ P)
+abbrev pub SaysOnly : Language → List (List ℕ) → List (List ℕ) → ProgramTree → Type 0
+SaysOnly l names sources P = Says l names sources P × ((Q : ProgramTree) → Says l names sources Q → Q ≡ P)

@@ -1,3 +1,4 @@
+pub mod Languages
 pub mod Inputs
 pub mod Stops
 pub mod FaultLines

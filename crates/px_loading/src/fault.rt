@@ -2,7 +2,15 @@ ghost use Rattle.std.specs.Prelude.{◌≡◌};
 ghost use Rattle.px_loading.specs.declared.fault.LoadFault.TheVariants.{NoMemory};
 
 use px_reading::SourceFault;
+use px_real_loading::RealFault;
 use std::alloc::AllocFailed;
+
+/// The first fault of a source, by how it is read.
+#[derive(Clone, Copy, Debug, PartialEq, Eq)]
+pub enum Fault {
+    Profile(SourceFault),
+    Real(RealFault),
+}
 
 /// Why files say no program. The file that is named is the first of which this is so.
 #[derive(Clone, Copy)]
@@ -12,7 +20,7 @@ pub enum LoadFault<'a> {
     /// The file of this name is too long.
     Long(&'a str),
     /// The source of this name has this fault, its first. All files were read.
-    Source(&'a str, SourceFault),
+    Source(&'a str, Fault),
     /// More than 1,024 functions are kept. All files were read.
     Many,
     NoMemory,

@@ -1,6 +1,7 @@
+ghost use Rattle.px_loading.specs.declared.language.Language.TheVariants.{Profile};
 ghost use Rattle.px_loading.specs.Order.{LeftInOrder};
 
-/// A law: what the program of files leaves out stands in the order of its places.
+/// A law: what the program of files that are read as C of the profile leaves out stands in the order of its places.
 pub fn left_in_order()
-    ensures { LeftInOrder }
+    ensures { LeftInOrder Profile }
 {}

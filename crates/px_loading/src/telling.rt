@@ -1,6 +1,7 @@
 ghost use Rattle.std.specs.Prelude.{ℕ, List};
 ghost use Rattle.px_io.specs.Reads.{Given};
 ghost use Rattle.px_lines.specs.Sinks.{change};
+ghost use Rattle.px_loading.specs.declared.language.Language.{Language};
 ghost use Rattle.px_loading.specs.Faults.{IsFaultOf};
 ghost use Rattle.px_loading.specs.Refusals.{HasNoProgram};
 
@@ -13,7 +14,7 @@ use std::alloc::Global;
 
 /// Tells why files say no program, and answers the status. Where there is no memory for the line, it tells that.
 pub fn tell_fault<E: Sink>(alloc: Global, err: &mut E, fault: LoadFault) -> Status
-    ensures { (names : List (List ℕ)) (given : List Given) → IsFaultOf names given fault.entry → HasNoProgram names given (change E.told E.count err.old err.new) result }
+    ensures { (language : Language) (names : List (List ℕ)) (given : List Given) → IsFaultOf language names given fault.entry → HasNoProgram language names given (change E.told E.count err.old err.new) result }
 {
     match fault {
         LoadFault::Unread(name) => tell(err, Cause::UnreadFile(name)),

@@ -1,19 +1,18 @@
--- The lowered bodies of the program that files say.
+-- The lowered bodies of a program that is well-formed.
 use Rattle.std.proofs.Common.{◌≡◌, ℕ, length, option_map, slice_get, Option, Some, None, subst}
 use Rattle.std.proofs.lemmas.Option.{none-some, same_Some}
 use Rattle.px_core.specs.BodyTree.{BodyTree}
-use Rattle.px_syntax.specs.ProgramTree.{ProcedureTree}
-use Rattle.px_typing.specs.Programs.{program_of}
+use Rattle.px_syntax.specs.ProgramTree.{ProcedureTree, ProgramTree}
 use Rattle.px_meaning.specs.TypedProgram.{typed_program}
 use Rattle.px_lower.specs.LoweredProgram.{locals_of, lowered}
 use Rattle.px_lower.proofs.BodiesLaw.{bodies}
 use Rattle.px_programs.specs.Numbers.{IsProcedureListed}
 use Rattle.px_programs.specs.ListedBodies.{IsBodyListed}
-use Rattle.px_programs.specs.BodyLaws.{BodiesHaveTheirNumbers, BodiesOfFilesKeep}
+use Rattle.px_programs.specs.WellFormed.{IsWellFormedProgram}
+use Rattle.px_programs.specs.BodyLaws.{bodies_of, EachBody, BodiesOfProgramsKeep}
 use Rattle.px_programs.proofs.Options.{Holds}
 use Rattle.px_programs.proofs.Lists.{all_get}
 use Rattle.px_programs.proofs.ListedCommands.{statement_listed}
-use Rattle.px_programs.proofs.ProgramsTyped.{programs, numbers}
 
 module _ (names types : ℕ) where
   body_listed : (p : ProcedureTree) → IsProcedureListed names types p → IsBodyListed names types (lowered p)
@@ -27,17 +26,16 @@ module _ (names types : ℕ) where
   of_procedure None h b e = absurd (none-some b e)
   of_procedure (Some p) h b e = subst (IsBodyListed names types) (same_Some (lowered p) b e) (body_listed p h)
 
-pub listed : BodiesHaveTheirNumbers
-listed files f b e =
-    let p = program_of files in
-    let names = length p.names in
-    let types = length p.types in
-    of_procedure names types (slice_get p.procedures f) (all_get (IsProcedureListed names types) p.procedures f (numbers files).procedures) b e
+pub listed : (P : ProgramTree) → IsWellFormedProgram P → EachBody (IsBodyListed (length P.names) (length P.types)) (bodies_of P)
+listed P h f b e =
+    let names = length P.names in
+    let types = length P.types in
+    of_procedure names types (slice_get P.procedures f) (all_get (IsProcedureListed names types) P.procedures f h.procedures) b e
 
-pub keep : BodiesOfFilesKeep
-keep = record {
-  types = λ files. bodies.types (typed_program (program_of files)) (programs files);
-  well_formed = λ files. bodies.well_formed (typed_program (program_of files)) (programs files);
-  ranges = λ files. bodies.ranges (typed_program (program_of files)) (programs files);
-  listed = listed;
+pub keep : BodiesOfProgramsKeep
+keep P h = record {
+  types = bodies.types (typed_program P) h.typing;
+  well_formed = bodies.well_formed (typed_program P) h.typing;
+  ranges = bodies.ranges (typed_program P) h.typing;
+  listed = listed P h;
 }

@@ -25,7 +25,7 @@ use Rattle.px_terms.proofs.Recursion.{all_push}
 
 -- ---- what the first item says
 
-bytes_same : (xs : List ℕ) → bytes_eq xs xs ≡ true
+pub bytes_same : (xs : List ℕ) → bytes_eq xs xs ≡ true
 bytes_same xs = (bytes_eq-Decides xs xs).1 refl
 
 -- ---- words

@@ -29,7 +29,7 @@ use Rattle.px_typing.specs.Programs.{environment_in, judged_in, names_of, blocks
 use Rattle.px_typing.proofs.NumberingLemmas.{base_refl}
 use Rattle.px_meaning.specs.TypedProgram.{TypedProgram}
 use Rattle.px_programs.specs.Numbers.{IsValueListed, IsBlockListed}
-use Rattle.px_programs.specs.Laws.{ProgramsKeepTyping, ProgramsHaveTheirNumbers, IsFunction, AreInOrder, items_in}
+use Rattle.px_programs.specs.Laws.{ProgramsKeepTyping, ProgramsHaveTheirNumbers, IsFunction, AreInOrder, items_in, ProgramsAreWellFormed}
 use Rattle.px_programs.proofs.Options.{Holds, of_some}
 use Rattle.px_programs.proofs.Lists.{all_first, all_second, all_get, all_change, all_map, Begins, get_begins}
 use Rattle.px_programs.proofs.TypeWords.{same_type_is, IsListedType, IsKnown, value_listed, tag_known}
@@ -339,3 +339,8 @@ numbers files = record {
   blocks = blocks_listed (items_in files);
   left = left_in_order (items_in files);
 }
+
+pub well_formed : ProgramsAreWellFormed
+well_formed files =
+    let its = numbers files in
+    record { typing = programs files; numbered = λ n p h. (its.functions n p h).numbered; few = its.few; procedures = its.procedures; blocks = its.blocks }

@@ -2,7 +2,6 @@
 use Rattle.std.proofs.Common.{ℕ, List}
 use Rattle.px_base.specs.declared.trace.Mark.{Mark}
 use Rattle.px_entry.specs.declared.entries.Entry.{Entry}
-use Rattle.px_typing.specs.Programs.{program_of}
 use Rattle.px_meaning.specs.Values.{Value}
 use Rattle.px_meaning.specs.Heaps.{HeapMap}
 use Rattle.px_meaning.specs.Calls.{Ending, Calls}
@@ -10,7 +9,6 @@ use Rattle.px_meaning.specs.TypedProgram.{typed_program}
 use Rattle.px_meaning.specs.Triples.{IsTaken, IsValid}
 use Rattle.px_lower.proofs.Law.{keeps}
 use Rattle.px_programs.specs.TripleLaws.{TriplesAreOfTrees}
-use Rattle.px_programs.proofs.ProgramsTyped.{programs}
 
 -- each call of the one is one of the other
 abbrev AreAmong : Calls → Calls → Type 0
@@ -29,8 +27,8 @@ valid_more calls more among parameters x valid v h =
     }
 
 pub triples : TriplesAreOfTrees
-triples files f parameters x =
-    let scopes = keeps.typed (typed_program (program_of files)) (programs files) in (
-      valid_more _ _ (λ arguments heap t ending end call. (keeps.calls (typed_program (program_of files)) scopes f arguments heap t ending end).0 call) parameters x,
-      valid_more _ _ (λ arguments heap t ending end call. (keeps.calls (typed_program (program_of files)) scopes f arguments heap t ending end).1 call) parameters x,
+triples P h f parameters x =
+    let scopes = keeps.typed (typed_program P) h.typing in (
+      valid_more _ _ (λ arguments heap t ending end call. (keeps.calls (typed_program P) scopes f arguments heap t ending end).0 call) parameters x,
+      valid_more _ _ (λ arguments heap t ending end call. (keeps.calls (typed_program P) scopes f arguments heap t ending end).1 call) parameters x,
     )

@@ -16,6 +16,7 @@ use Rattle.px_typing.specs.Programs.{environment_in, judged_in, names_of, blocks
 use Rattle.px_meaning.specs.TypedProgram.{typed_program}
 use Rattle.px_meaning.specs.TreeTypes.{KeepsTyping}
 use Rattle.px_programs.specs.Numbers.{IsBlockListed, IsProcedureListed}
+use Rattle.px_programs.specs.WellFormed.{IsWellFormedProgram}
 
 -- the program that files say keeps the typing rules
 abbrev pub ProgramsKeepTyping : Type 0
@@ -74,3 +75,7 @@ pub record HasItsNumbers (files : List FileTree) : Type 0 where
 
 abbrev pub ProgramsHaveTheirNumbers : Type 0
 ProgramsHaveTheirNumbers = (files : List FileTree) → HasItsNumbers files
+
+-- so the program that files say is well-formed
+abbrev pub ProgramsAreWellFormed : Type 0
+ProgramsAreWellFormed = (files : List FileTree) → IsWellFormedProgram (program_of files)

@@ -1,4 +1,5 @@
 pub mod Numbers
+pub mod WellFormed
 pub mod Laws
 pub mod ListedBodies
 pub mod BodyLaws

@@ -1,5 +1,5 @@
-ghost use Rattle.px_programs.specs.BodyLaws.{BodiesHaveTheirNumbers, BodiesOfFilesKeep};
-ghost use Rattle.px_programs.specs.Laws.{ProgramsKeepTyping, ProgramsHaveTheirNumbers};
+ghost use Rattle.px_programs.specs.BodyLaws.{BodiesOfProgramsKeep};
+ghost use Rattle.px_programs.specs.Laws.{ProgramsKeepTyping, ProgramsHaveTheirNumbers, ProgramsAreWellFormed};
 ghost use Rattle.px_programs.specs.TripleLaws.{TriplesAreOfTrees};
 
 /// A law: the program that files say keeps the typing rules.
@@ -12,19 +12,18 @@ pub fn programs_have_their_numbers()
     ensures { ProgramsHaveTheirNumbers }
 {}
 
-/// A law: so are the numbers in its lowered bodies.
-pub fn bodies_have_their_numbers()
-    ensures { BodiesHaveTheirNumbers }
+/// A law: so the program that files say is well-formed.
+pub fn programs_are_well_formed()
+    ensures { ProgramsAreWellFormed }
 {}
 
-/// A law: its lowered bodies keep to types, are well-formed, have words of 32 bits as constants, and have numbers
-/// that are listed.
-pub fn bodies_of_files_keep()
-    ensures { BodiesOfFilesKeep }
+/// A law: the lowered bodies of a program that is well-formed keep to types, are well-formed, have words of 32 bits as constants, and
+/// have numbers that are listed.
+pub fn bodies_of_programs_keep()
+    ensures { BodiesOfProgramsKeep }
 {}
 
-/// A law: an entry is a valid triple over the calls of its lowered bodies exactly where it is one over those of its
-/// typed trees.
+/// A law: an entry is a valid triple over the calls of these bodies exactly where it is one over those of the typed trees.
 pub fn triples_are_of_trees()
     ensures { TriplesAreOfTrees }
 {}

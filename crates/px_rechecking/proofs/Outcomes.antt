@@ -11,6 +11,7 @@ use Rattle.px_lines.specs.declared.status.Status.{Status}
 use Rattle.px_lines.specs.declared.status.Status.TheVariants as S
 use Rattle.px_lines.specs.Sinks.{Change, Tells}
 use Rattle.px_lines.specs.Lines.{cannot_read_line, out_of_memory_line}
+use Rattle.px_loading.specs.declared.language.Language.{Language}
 use Rattle.px_loading.specs.Inputs.{fault_of}
 use Rattle.px_loading.specs.Refusals.{IsRefused, SaysAlone, HasNoProgram}
 use Rattle.px_loading.proofs.Outcomes.{not_refused}
@@ -31,12 +32,12 @@ use Rattle.px_rechecking.specs.Found.{kept_way, IsKeptCheckOf}
 use Rattle.px_rechecking.specs.Answers.{IsKeptRefused, ReportedWith, AnswersWith}
 
 -- files that say a program were read
-pub were_read : (names : List (List ℕ)) (given : List Given) (P : ProgramTree) → SaysAlone names given P → fault_of given ≢ Some Failed
-were_read names given P says e = let none = says.0.0 in cc
+pub were_read : (l : Language) (names : List (List ℕ)) (given : List Given) (P : ProgramTree) → SaysAlone l names given P → fault_of given ≢ Some Failed
+were_read l names given P says e = let none = says.0.0 in cc
 
-module _ (limits : LimitNumbers) (form : Form) (stats : Bool) (more : More) (kinds : List ℕ) (names : List (List ℕ)) (path : List ℕ) (given : List Given) (out err : Change) (same : Type 0) where
-  pub at_status : (kept : Option Given) (s status : Status) → status ≡ s → AnswersWith limits form stats more kinds names path given kept out err same s → AnswersWith limits form stats more kinds names path given kept out err same status
-  at_status kept s status e a = subst (λ z. AnswersWith limits form stats more kinds names path given kept out err same z) (sym e) a
+module _ (l : Language) (limits : LimitNumbers) (form : Form) (stats : Bool) (more : More) (kinds : List ℕ) (names : List (List ℕ)) (path : List ℕ) (given : List Given) (out err : Change) (same : Type 0) where
+  pub at_status : (kept : Option Given) (s status : Status) → status ≡ s → AnswersWith l limits form stats more kinds names path given kept out err same s → AnswersWith l limits form stats more kinds names path given kept out err same status
+  at_status kept s status e a = subst (λ z. AnswersWith l limits form stats more kinds names path given kept out err same z) (sym e) a
 
   -- ---- no program
 
@@ -44,7 +45,7 @@ module _ (limits : LimitNumbers) (form : Form) (stats : Bool) (more : More) (kin
   unread_alone line (inl (e, _)) = cc
   unread_alone line (inr (bytes, place, e, _, _)) = cc
 
-  pub with_none : (status : Status) → HasNoProgram names given err status → AnswersWith limits form stats more kinds names path given None out err same status
+  pub with_none : (status : Status) → HasNoProgram l names given err status → AnswersWith l limits form stats more kinds names path given None out err same status
   with_none status h = record {
     known = λ e. none_known status S.BadInput h e (λ f. cc) (λ f. cc) (λ f. cc);
     other = λ e. none_known status S.Usage h e (λ f. cc) (λ f. cc) (λ f. cc);
@@ -62,7 +63,7 @@ module _ (limits : LimitNumbers) (form : Form) (stats : Bool) (more : More) (kin
 
   -- ---- memory ran out
 
-  pub with_memory : (kept : Option Given) → fault_of given ≢ Some Failed → kept ≢ Some (Err Failed) → Tells err out_of_memory_line → AnswersWith limits form stats more kinds names path given kept out err same S.NoMemory
+  pub with_memory : (kept : Option Given) → fault_of given ≢ Some Failed → kept ≢ Some (Err Failed) → Tells err out_of_memory_line → AnswersWith l limits form stats more kinds names path given kept out err same S.NoMemory
   with_memory kept read other t = record {
     known = λ e. cc;
     other = λ e. cc;
@@ -77,15 +78,15 @@ module _ (limits : LimitNumbers) (form : Form) (stats : Bool) (more : More) (kin
 
   -- ---- a program, and no kept summaries of it
 
-  module _ (P : ProgramTree) (says : SaysAlone names given P) where
-    no_refusal : (line : List ℕ) → IsRefused names given line → ⊥
-    no_refusal line r = not_refused names given line P says r
+  module _ (P : ProgramTree) (says : SaysAlone l names given P) where
+    no_refusal : (line : List ℕ) → IsRefused l names given line → ⊥
+    no_refusal line r = not_refused l names given line P says r
 
     not_both : (line : List ℕ) → IsKeptRefused path (Some (Err Failed)) line → ⊥
     not_both line (inl (e, _)) = cc
     not_both line (inr (bytes, place, e, _, _)) = cc
 
-    pub with_failed : Tells err (cannot_read_line path) → AnswersWith limits form stats more kinds names path given (Some (Err Failed)) out err same S.Unread
+    pub with_failed : Tells err (cannot_read_line path) → AnswersWith l limits form stats more kinds names path given (Some (Err Failed)) out err same S.Unread
     with_failed t = record {
       known = λ e. cc;
       other = λ e. cc;
@@ -98,13 +99,13 @@ module _ (limits : LimitNumbers) (form : Form) (stats : Bool) (more : More) (kin
       memory_line = λ e. absurd cc;
     }
 
-    pub with_refused : (kept : Option Given) (line : List ℕ) → kept ≢ Some (Err Failed) → IsKeptRefused path kept line → Tells err line → AnswersWith limits form stats more kinds names path given kept out err same S.Refused
+    pub with_refused : (kept : Option Given) (line : List ℕ) → kept ≢ Some (Err Failed) → IsKeptRefused path kept line → Tells err line → AnswersWith l limits form stats more kinds names path given kept out err same S.Refused
     with_refused kept line other r t = record {
       known = λ e. cc;
       other = λ e. cc;
       done = λ e. elim e [ inl k ↦ absurd cc | inr k ↦ absurd cc ];
       cut = λ e. absurd cc;
-      unread = (λ e. absurd cc, λ x. elim x [ inl f ↦ absurd (were_read names given P says f) | inr k ↦ absurd (other k) ]);
+      unread = (λ e. absurd cc, λ x. elim x [ inl f ↦ absurd (were_read l names given P says f) | inr k ↦ absurd (other k) ]);
       refused = inr (λ e. (line, inr r), λ x. refl);
       unread_line = λ e. absurd cc;
       refused_line = λ e. (line, inr r, t);
@@ -120,10 +121,10 @@ module _ (limits : LimitNumbers) (form : Form) (stats : Bool) (more : More) (kin
       none_bad one line (inr (others, place, e, bad, _)) = let back : others ≡ bytes = cc in one.apart bytes items place are (subst (λ z. IsBadAt z place) back bad)
 
       pub with_written : OneReading → FindingsAreSoundAndCover → OneIsFound → (text : List ℕ) (b : Bool) (line : Option (List ℕ)) (status : Status) → IsKeptCheckOf limits form stats more items kinds P text b line →
-          IsWritten text b line out err same status → AnswersWith limits form stats more kinds names path given (Some (Ok bytes)) out err same status
+          IsWritten text b line out err same status → AnswersWith l limits form stats more kinds names path given (Some (Ok bytes)) out err same status
       with_written once right one text b line status c w =
-          let (r, report, findings, its, program) = reported right one (kept_way limits form stats more items c.used) kinds names given text b line P says c.check in
-          let report_with : ReportedWith limits form stats more kinds names given (Some (Ok bytes)) text = record {
+          let (r, report, findings, its, program) = reported right one l (kept_way limits form stats more items c.used) kinds names given text b line P says c.check in
+          let report_with : ReportedWith l limits form stats more kinds names given (Some (Ok bytes)) text = record {
             bytes = bytes;
             read = refl;
             items = items;
@@ -140,7 +141,7 @@ module _ (limits : LimitNumbers) (form : Form) (stats : Bool) (more : More) (kin
             other = λ e. by S.Usage e (λ k. cc) (λ k. cc) (λ k. cc);
             done = λ e. let d = w.done e in (text, report_with, d.0, (λ k. bug.0 (d.1.0 k), λ k. d.1.1 (bug.1 k)), subst (IsToldAfter err same) told d.2);
             cut = λ e. (text, report_with, subst (IsCutAt out err text) told (w.cut e));
-            unread = (λ e. absurd (by S.Unread e (λ k. cc) (λ k. cc) (λ k. cc)), λ x. elim x [ inl f ↦ absurd (were_read names given P says f) | inr k ↦ absurd cc ]);
+            unread = (λ e. absurd (by S.Unread e (λ k. cc) (λ k. cc) (λ k. cc)), λ x. elim x [ inl f ↦ absurd (were_read l names given P says f) | inr k ↦ absurd cc ]);
             refused = inr (λ e. absurd (by S.Refused e (λ k. cc) (λ k. cc) (λ k. cc)), λ (l, x). absurd (elim x [ inl q ↦ no_refusal l q | inr k ↦ none_bad once l k ]));
             unread_line = λ e. absurd (by S.Unread e (λ k. cc) (λ k. cc) (λ k. cc));
             refused_line = λ e. absurd (by S.Refused e (λ k. cc) (λ k. cc) (λ k. cc));

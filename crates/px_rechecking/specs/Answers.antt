@@ -9,6 +9,8 @@ use Rattle.px_lines.specs.declared.status.Status.{Status}
 use Rattle.px_lines.specs.declared.status.Status.TheVariants as S
 use Rattle.px_lines.specs.Sinks.{Change, Grew, WasCut, Tells}
 use Rattle.px_lines.specs.Lines.{cannot_read_line, cannot_write_line, out_of_memory_line}
+use Rattle.px_loading.specs.declared.language.Language.{Language}
+use Rattle.px_loading.specs.declared.language.Language.TheVariants.{Profile}
 use Rattle.px_loading.specs.Inputs.{fault_of}
 use Rattle.px_loading.specs.Stops.{GivesAll, CountsFailed}
 use Rattle.px_loading.specs.Refusals.{IsRefused, IsStopped, SaysAlone, HasLines}
@@ -50,40 +52,40 @@ IsKeptRefused path kept line = ((kept ≡ Some (Err Long)) × (line ≡ path ++ 
 -- ---- a check
 
 -- The report on the program that files say, which were read, with the help of the items of the bytes that were read after them.
-pub record ReportedWith (limits : LimitNumbers) (form : Form) (stats : Bool) (more : More) (kinds : List ℕ) (names : List (List ℕ)) (given : List Given) (kept : Option Given) (text : List ℕ) : Type 0 where
+pub record ReportedWith (l : Language) (limits : LimitNumbers) (form : Form) (stats : Bool) (more : More) (kinds : List ℕ) (names : List (List ℕ)) (given : List Given) (kept : Option Given) (text : List ℕ) : Type 0 where
   pub bytes : List ℕ
   pub read : kept ≡ Some (Ok bytes)
   pub items : List KeptItem
   pub are : AreKept bytes items
   pub used : ℕ
-  pub reported : Reported (kept_way limits form stats more items used) kinds names given text
+  pub reported : Reported l (kept_way limits form stats more items used) kinds names given text
   pub reused : IsReused (work_of reported.program limits reported.on.kinds) items reported.on.findings used
 
 -- the line that is told after it, if there is one
-abbrev pub line_after : {limits : LimitNumbers} {form : Form} {stats : Bool} {more : More} {kinds : List ℕ} {names : List (List ℕ)} {given : List Given} {kept : Option Given} {text : List ℕ} →
-    ReportedWith limits form stats more kinds names given kept text → Option (List ℕ)
+abbrev pub line_after : {l : Language} {limits : LimitNumbers} {form : Form} {stats : Bool} {more : More} {kinds : List ℕ} {names : List (List ℕ)} {given : List Given} {kept : Option Given} {text : List ℕ} →
+    ReportedWith l limits form stats more kinds names given kept text → Option (List ℕ)
 line_after {stats = stats} r = line_asked stats r.used r.reported.on.findings
 
 -- How a check is answered that is asked for with a file of kept summaries, of which this is the path: as one without, but for the two
 -- further reasons to end early.
-pub record AnswersWith (limits : LimitNumbers) (form : Form) (stats : Bool) (more : More) (kinds : List ℕ) (names : List (List ℕ)) (path : List ℕ) (given : List Given) (kept : Option Given) (out err : Change) (same : Type 0) (status : Status) : Type 0 where
+pub record AnswersWith (l : Language) (limits : LimitNumbers) (form : Form) (stats : Bool) (more : More) (kinds : List ℕ) (names : List (List ℕ)) (path : List ℕ) (given : List Given) (kept : Option Given) (out err : Change) (same : Type 0) (status : Status) : Type 0 where
   pub known : status ≢ S.BadInput
   pub other : status ≢ S.Usage
-  pub done : status ≡ S.Done ⊎ status ≡ S.Bug → (text : List ℕ) × (r : ReportedWith limits form stats more kinds names given kept text) × Grew out text × (status ≡ S.Bug ↔ HasBug r.reported.on.report) × IsToldAfter err same (line_after r)
-  pub cut : status ≡ S.Unwritten → (text : List ℕ) × (r : ReportedWith limits form stats more kinds names given kept text) × IsCutAt out err text (line_after r)
+  pub done : status ≡ S.Done ⊎ status ≡ S.Bug → (text : List ℕ) × (r : ReportedWith l limits form stats more kinds names given kept text) × Grew out text × (status ≡ S.Bug ↔ HasBug r.reported.on.report) × IsToldAfter err same (line_after r)
+  pub cut : status ≡ S.Unwritten → (text : List ℕ) × (r : ReportedWith l limits form stats more kinds names given kept text) × IsCutAt out err text (line_after r)
   pub unread : status ≡ S.Unread ↔ (fault_of given ≡ Some Failed ⊎ kept ≡ Some (Err Failed))
-  pub refused : status ≡ S.NoMemory ⊎ (status ≡ S.Refused ↔ ((line : List ℕ) × (IsRefused names given line ⊎ IsKeptRefused path kept line)))
+  pub refused : status ≡ S.NoMemory ⊎ (status ≡ S.Refused ↔ ((line : List ℕ) × (IsRefused l names given line ⊎ IsKeptRefused path kept line)))
   -- the lines on standard error where there is no report
   pub unread_line : status ≡ S.Unread → (name : List ℕ) × (IsStopped names given name ⊎ ((kept ≡ Some (Err Failed)) × (name ≡ path))) × Tells err (cannot_read_line name)
-  pub refused_line : status ≡ S.Refused → (line : List ℕ) × (IsRefused names given line ⊎ IsKeptRefused path kept line) × Tells err line
+  pub refused_line : status ≡ S.Refused → (line : List ℕ) × (IsRefused l names given line ⊎ IsKeptRefused path kept line) × Tells err line
   pub memory_line : status ≡ S.NoMemory → Tells err out_of_memory_line
 
 -- ---- the keeping
 
--- what keeps the summaries of the program that files say, which were read
+-- what keeps the summaries of the program that files say, which were read as C of the profile
 pub record KeptOf (limits : LimitNumbers) (kinds : List ℕ) (names : List (List ℕ)) (given : List Given) (bytes : List ℕ) : Type 0 where
   pub program : ProgramTree
-  pub says : SaysAlone names given program
+  pub says : SaysAlone Profile names given program
   pub keeps : KeepsProgramOf program limits kinds bytes
 
 -- How the keeping of files' summaries is answered: all bytes that keep them were written; a prefix of them, where the write failed; or
@@ -93,5 +95,5 @@ pub record AnswersKeep (limits : LimitNumbers) (kinds : List ℕ) (names : List 
   pub done : status ≡ S.Done → (bytes : List ℕ) × KeptOf limits kinds names given bytes × Grew out bytes × same
   pub cut : status ≡ S.Unwritten → (bytes : List ℕ) × KeptOf limits kinds names given bytes × WasCut out bytes × Tells err cannot_write_line
   pub unread : status ≡ S.Unread ↔ fault_of given ≡ Some Failed
-  pub refused : status ≡ S.NoMemory ⊎ (status ≡ S.Refused ↔ ((line : List ℕ) × IsRefused names given line))
-  pub lines : HasLines names given err status
+  pub refused : status ≡ S.NoMemory ⊎ (status ≡ S.Refused ↔ ((line : List ℕ) × IsRefused Profile names given line))
+  pub lines : HasLines Profile names given err status

@@ -5,6 +5,8 @@ ghost use Rattle.px_io.specs.Reads.{Given};
 ghost use Rattle.px_lines.specs.declared.status.Status.TheVariants as Statuses;
 ghost use Rattle.px_lines.specs.Lines.{out_of_memory_line};
 ghost use Rattle.px_lines.specs.Sinks.{change, Tells};
+ghost use Rattle.px_loading.specs.declared.language.Language.{Language};
+ghost use Rattle.px_loading.specs.Languages.{language_of};
 ghost use Rattle.px_loading.specs.Refusals.{SaysAlone};
 ghost use Rattle.px_keep.specs.Items.{AreKept};
 ghost use Rattle.px_rechecking.specs.Lines.{bad_item_text};
@@ -22,7 +24,7 @@ use px_checking::{More, write_rendered};
 use px_io::{FileFault, Files, Sink};
 use px_keep::{KeepFault, Kept, one_reading};
 use px_lines::{Cause, Status, tell};
-use px_loading::{load, tell_fault};
+use px_loading::{language, load, tell_fault};
 use px_syntax::Program;
 use px_terms::{Domain, NoMemory};
 use px_text_report::Form;
@@ -39,6 +41,8 @@ pub struct KeptCheck {
     pub limits: Limits,
     /// From 1 to 64 files, in the order of the words.
     pub names: Vec<String>,
+    /// Whether they are read as preprocessed C.
+    pub real: bool,
     /// The file of kept summaries.
     pub path: String,
     /// Whether it is told how many procedures have an item that is good for them, and how many were analysed.
@@ -62,12 +66,12 @@ pub fn check_with_kept<W: Form, F: Files, K: Sink, E: Sink>(
     requires few { length asked.now.names.items ≤ most_files }
     requires kinds { AreOwnKinds (map (λ b. number b) domains.old.items) }
     requires clear { All (λ b. holds b []) domains.old.items }
-    ensures answers { (given : List Given) × (kept : Option Given) × GivesWithKept F.told F.count F.gives files.old files.new (texts asked.now.names.items) (string_bytes asked.now.path) given kept × AnswersWith asked.now.limits (W.written form.now) asked.now.stats asked.now.more (map (λ b. number b) domains.old.items) (texts asked.now.names.items) (string_bytes asked.now.path) given kept (change K.told K.count out.old out.new) (change E.told E.count err.old err.new) (err.new ≡ err.old) result }
+    ensures answers { (given : List Given) × (kept : Option Given) × GivesWithKept F.told F.count F.gives files.old files.new (texts asked.now.names.items) (string_bytes asked.now.path) given kept × AnswersWith (language_of asked.now.real) asked.now.limits (W.written form.now) asked.now.stats asked.now.more (map (λ b. number b) domains.old.items) (texts asked.now.names.items) (string_bytes asked.now.path) given kept (change K.told K.count out.old out.new) (change E.told E.count err.old err.new) (err.new ≡ err.old) result }
     ensures quiet { result ≡ Statuses.Unread ⊎ (result ≡ Statuses.Refused ⊎ result ≡ Statuses.NoMemory) → out.new ≡ out.old }
     ensures clear { All (λ b. holds b []) domains.new.items }
     ensures kinds { map (λ b. number b) domains.new.items ≡ map (λ b. number b) domains.old.items }
 {
-    match load(alloc, &asked.names, files) {
+    match load(alloc, language(asked.real), &asked.names, files) {
         Ok(program) => check_program(alloc, asked, &program, form, files, out, err, domains),
         Err(fault) => tell_fault(alloc, err, fault),
     }
@@ -88,7 +92,7 @@ fn check_program<W: Form, F: Files, K: Sink, E: Sink>(
     requires allowed { F.allows files.old (string_bytes asked.now.path) }
     requires kinds { AreOwnKinds (map (λ b. number b) domains.old.items) }
     requires clear { All (λ b. holds b []) domains.old.items }
-    ensures answers { (kept : Option Given) × GivesLast F.told F.count F.gives files.old files.new (string_bytes asked.now.path) kept × ((names : List (List ℕ)) (given : List Given) → SaysAlone names given (program_tree program.now) → AnswersWith asked.now.limits (W.written form.now) asked.now.stats asked.now.more (map (λ b. number b) domains.old.items) names (string_bytes asked.now.path) given kept (change K.told K.count out.old out.new) (change E.told E.count err.old err.new) (err.new ≡ err.old) result) }
+    ensures answers { (kept : Option Given) × GivesLast F.told F.count F.gives files.old files.new (string_bytes asked.now.path) kept × ((l : Language) (names : List (List ℕ)) (given : List Given) → SaysAlone l names given (program_tree program.now) → AnswersWith l asked.now.limits (W.written form.now) asked.now.stats asked.now.more (map (λ b. number b) domains.old.items) names (string_bytes asked.now.path) given kept (change K.told K.count out.old out.new) (change E.told E.count err.old err.new) (err.new ≡ err.old) result) }
     ensures quiet { result ≡ Statuses.Unread ⊎ (result ≡ Statuses.Refused ⊎ result ≡ Statuses.NoMemory) → out.new ≡ out.old }
     ensures clear { All (λ b. holds b []) domains.new.items }
     ensures kinds { map (λ b. number b) domains.new.items ≡ map (λ b. number b) domains.old.items }
@@ -119,7 +123,7 @@ fn check_by_bytes<W: Form, K: Sink, E: Sink>(
     requires program { IsAnalysable (program_tree program.now) }
     requires kinds { AreOwnKinds (map (λ b. number b) domains.old.items) }
     requires clear { All (λ b. holds b []) domains.old.items }
-    ensures answers { (names : List (List ℕ)) (given : List Given) → SaysAlone names given (program_tree program.now) → AnswersWith asked.now.limits (W.written form.now) asked.now.stats asked.now.more (map (λ b. number b) domains.old.items) names (string_bytes asked.now.path) given (Some (Ok bytes.now)) (change K.told K.count out.old out.new) (change E.told E.count err.old err.new) (err.new ≡ err.old) result }
+    ensures answers { (l : Language) (names : List (List ℕ)) (given : List Given) → SaysAlone l names given (program_tree program.now) → AnswersWith l asked.now.limits (W.written form.now) asked.now.stats asked.now.more (map (λ b. number b) domains.old.items) names (string_bytes asked.now.path) given (Some (Ok bytes.now)) (change K.told K.count out.old out.new) (change E.told E.count err.old err.new) (err.new ≡ err.old) result }
     ensures quiet { result ≡ Statuses.Unread ⊎ (result ≡ Statuses.Refused ⊎ result ≡ Statuses.NoMemory) → out.new ≡ out.old }
     ensures clear { All (λ b. holds b []) domains.new.items }
     ensures kinds { map (λ b. number b) domains.new.items ≡ map (λ b. number b) domains.old.items }
@@ -157,7 +161,7 @@ fn check_by_items<W: Form, K: Sink, E: Sink>(
     requires program { IsAnalysable (program_tree program.now) }
     requires kinds { AreOwnKinds (map (λ b. number b) domains.old.items) }
     requires clear { All (λ b. holds b []) domains.old.items }
-    ensures answers { (names : List (List ℕ)) (given : List Given) (bytes : List ℕ) → SaysAlone names given (program_tree program.now) → AreKept bytes items.now → AnswersWith asked.now.limits (W.written form.now) asked.now.stats asked.now.more (map (λ b. number b) domains.old.items) names (string_bytes asked.now.path) given (Some (Ok bytes)) (change K.told K.count out.old out.new) (change E.told E.count err.old err.new) (err.new ≡ err.old) result }
+    ensures answers { (l : Language) (names : List (List ℕ)) (given : List Given) (bytes : List ℕ) → SaysAlone l names given (program_tree program.now) → AreKept bytes items.now → AnswersWith l asked.now.limits (W.written form.now) asked.now.stats asked.now.more (map (λ b. number b) domains.old.items) names (string_bytes asked.now.path) given (Some (Ok bytes)) (change K.told K.count out.old out.new) (change E.told E.count err.old err.new) (err.new ≡ err.old) result }
     ensures quiet { result ≡ Statuses.Unread ⊎ (result ≡ Statuses.Refused ⊎ result ≡ Statuses.NoMemory) → out.new ≡ out.old }
     ensures clear { All (λ b. holds b []) domains.new.items }
     ensures kinds { map (λ b. number b) domains.new.items ≡ map (λ b. number b) domains.old.items }

@@ -18,12 +18,12 @@ use px_base::Limits;
 use px_checking::{put_back, sort_by_kind};
 use px_io::{Files, Sink, write_all};
 use px_lines::{Cause, Status, told};
-use px_loading::{load, tell_fault};
+use px_loading::{load_profile, tell_fault};
 use px_syntax::Program;
 use px_terms::{Domain, NoMemory};
 use std::alloc::Global;
 
-/// Reads files of these names and writes what keeps the summaries of their program, within these limits, to `out`, and answers the
+/// Reads files of these names, as C of the profile, and writes what keeps the summaries of their program, within these limits, to `out`, and answers the
 /// status: as a check, but for 1.
 pub fn keep_files<F: Files, K: Sink, E: Sink>(
     alloc: Global,
@@ -43,7 +43,7 @@ pub fn keep_files<F: Files, K: Sink, E: Sink>(
     ensures clear { All (λ b. holds b []) domains.new.items }
     ensures kinds { map (λ b. number b) domains.new.items ≡ map (λ b. number b) domains.old.items }
 {
-    match load(alloc, names, files) {
+    match load_profile(alloc, names, files) {
         Ok(program) => told(err, write_kept(alloc, limits, &program, out, domains)),
         Err(fault) => tell_fault(alloc, err, fault),
     }

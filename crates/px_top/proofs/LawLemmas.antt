@@ -13,6 +13,7 @@ use Rattle.px_words.specs.Meaning.{Command}
 use Rattle.px_lines.specs.declared.status.Status.{Status}
 use Rattle.px_lines.specs.declared.status.Status.TheVariants as S
 use Rattle.px_lines.specs.Sinks.{Change, change, Grew, Tells}
+use Rattle.px_loading.specs.Languages.{language_of}
 use Rattle.px_loading.specs.Inputs.{AgreeAll, fault_of, sources_of}
 use Rattle.px_loading.specs.Stops.{GivesAll}
 use Rattle.px_loading.specs.Refusals.{SaysAlone}
@@ -63,7 +64,7 @@ module _ (says : JobTree → Table → Type 0) {F I K E : Type 0}
 
     -- what is reported is true, after what reads it may be
     true_of : (c : Command) (after : F) (given : List Given) (P : ProgramTree) (f : Found) (report : Report) (rest text : List ℕ) → GivesAll file_told file_count gives files_old after c.files given → IsReadLast file_told gives files_old files_new (change out_told out_count out_old out_new) c.kept after →
-        SaysAlone c.files given P → AreSound P f → report ≡ report_on P (known f) → IsAfter (more_of c) P (known f) rest → text ≡ form c.json P report ++ rest → Grew (change out_told out_count out_old out_new) text → IsTrue c
+        SaysAlone (language_of c.real) c.files given P → AreSound P f → report ≡ report_on P (known f) → IsAfter (more_of c) P (known f) rest → text ≡ form c.json P report ++ rest → Grew (change out_told out_count out_old out_new) text → IsTrue c
     true_of c after given P f report rest text read last says sound is told text_is grew =
         let same = all_gave given says.0.0 in
         let (looks, counted, leaks) = told in

@@ -25,6 +25,8 @@ use Rattle.px_serving.specs.Works.{Works, ended_of}
 use Rattle.px_top.specs.Samples.{AnswersSample}
 use Rattle.px_checking.specs.Kinds.{IsRisingOf}
 use Rattle.px_top.specs.Runs.{way_of, more_of, AnswersBy, AnswersCommand, AnswersKeeping, AnswersAsked, AnswersWorker, HasLine, IsAnswered}
+use Rattle.px_loading.specs.declared.language.Language.TheVariants.{Profile}
+use Rattle.px_loading.specs.Languages.{language_of}
 use Rattle.px_loading.proofs.Loops.{none_counted}
 use Rattle.px_loading.proofs.Outcomes.{lines_memory}
 use Rattle.px_checking.proofs.Outcomes.{answers_memory}
@@ -174,14 +176,14 @@ module _ (says : JobTree → Table → Type 0) (told_old told_new : Option Numbe
   answers_spent c None line = (
     [],
     (refl, tt, none_counted (file_count files)),
-    answers_memory (way_of says told_old told_new c) kinds c.files [] _ _ _ (λ e. absurd cc),
-    lines_memory c.files [] (change err_told err_count err_old err_new) line,
+    answers_memory (language_of c.real) (way_of says told_old told_new c) kinds c.files [] _ _ _ (λ e. absurd cc),
+    lines_memory (language_of c.real) c.files [] (change err_told err_count err_old err_new) line,
   )
   answers_spent c (Some path) line = (
     [],
     None,
     record { mid = files; files = (refl, tt, none_counted (file_count files)); same = refl; last = refl },
-    with_memory c.limits (form c.json) c.stats (more_of c) kinds c.files path [] _ _ _ None (λ e. absurd cc) (λ e. absurd cc) line,
+    with_memory (language_of c.real) c.limits (form c.json) c.stats (more_of c) kinds c.files path [] _ _ _ None (λ e. absurd cc) (λ e. absurd cc) line,
   )
 
   answers_nothing : (request : Request) (status : Status) → status ≡ S.NoMemory → HasLine kinds file_told file_count gives files files in_told in_count input input out_told out_count out out err_told err_count err_old err_new out_of_memory_line → IfReport request (AnswersCommand says told_old told_new kinds file_told file_count gives files files out_told out_count out out err_told err_count err_old err_new status)
@@ -197,7 +199,7 @@ module _ (says : JobTree → Table → Type 0) (told_old told_new : Option Numbe
   keeps_nothing (command (a_keep c)) status spent line = subst (λ s. AnswersKeeping says told_old told_new kinds file_told file_count gives files files out_told out_count out out err_told err_count err_old err_new s c) (sym spent) (
     [],
     (refl, tt, none_counted (file_count files)),
-    keep_memory c.limits kinds c.files [] _ _ _ (λ e. absurd cc) (lines_memory c.files [] (change err_told err_count err_old err_new) line),
+    keep_memory c.limits kinds c.files [] _ _ _ (λ e. absurd cc) (lines_memory Profile c.files [] (change err_told err_count err_old err_new) line),
   )
   keeps_nothing (command a_worker) status spent line = tt
   keeps_nothing (command (a_sample s)) status spent line = tt

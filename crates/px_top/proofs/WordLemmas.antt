@@ -5,12 +5,12 @@ use Rattle.std.specs.Str.{bytes_eq}
 use Rattle.std.specs.String.{string_bytes}
 use Rattle.std.proofs.lemmas.Bool.{and_parts, leb-true}
 use Rattle.px_base.specs.Bounds.{most_files}
-use Rattle.px_words.specs.declared.flag_name.FlagName.TheVariants.{Json, Stats, Leaks}
+use Rattle.px_words.specs.declared.flag_name.FlagName.TheVariants.{Json, Stats, Leaks, Real}
 use Rattle.px_words.specs.declared.option_name.NumberName.TheVariants.{Unroll, Paths, Nodes, Workers}
 use Rattle.px_base.specs.LimitNumbers.{LimitNumbers}
 use Rattle.px_base.specs.Texts.{Text, texts}
 use Rattle.px_words.specs.Arguments.{Argument, arguments_of}
-use Rattle.px_words.specs.Meaning.{Command, ◌>>=◌, number_in, exec_in, startable, kept_in, takeable, bits_in, flag_in, with_text, files_of, some_files, is_bare, command_by, keep_by, meaning_of, keep_of}
+use Rattle.px_words.specs.Meaning.{Command, ◌>>=◌, number_in, exec_in, startable, kept_in, takeable, bits_in, flag_in, with_text, without_leaks, files_of, some_files, is_bare, command_by, keep_by, meaning_of, keep_of}
 use Rattle.px_words.specs.Samples.{sample_asked}
 use Rattle.px_top.specs.Words.{Asked, a_report, a_keep, a_sample, a_worker, worker_asked, command_of}
 use Rattle.px_loading.proofs.Loops.{length_mapped}
@@ -29,17 +29,17 @@ last (Some a) f P h b e = h a b e
 abbrev HasFew : Command → Type 0
 HasFew c = length c.files ≤ most_files
 
-files_kept : (files : Option (List Text)) (l : LimitNumbers) (w : ℕ) (exec kept : Option Text) (j s : Bool) (b : Option ℕ) (k : Bool) (c : Command) →
-    (files >>= λ fs. Some (record { limits = l; workers = w; exec = exec; kept = kept; json = j; stats = s; bits = b; leaks = k; files = fs })) ≡ Some c → files ≡ Some c.files
-files_kept None l w exec kept j s b k c e = absurd cc
-files_kept (Some fs) l w exec kept j s b k c e = ap (option_map (λ (d : Command). d.files)) e
+files_kept : (files : Option (List Text)) (l : LimitNumbers) (w : ℕ) (exec kept : Option Text) (j s : Bool) (b : Option ℕ) (k r : Bool) (c : Command) →
+    (files >>= λ fs. Some (record { limits = l; workers = w; exec = exec; kept = kept; json = j; stats = s; bits = b; leaks = k; real = r; files = fs })) ≡ Some c → files ≡ Some c.files
+files_kept None l w exec kept j s b k r c e = absurd cc
+files_kept (Some fs) l w exec kept j s b k r c e = ap (option_map (λ (d : Command). d.files)) e
 
 few_by : (o : Option (List Argument)) (c : Command) → (o >>= command_by) ≡ Some c → length c.files ≤ most_files
 few_by o c e =
     last o _ HasFew (λ xs. last (number_in xs Unroll) _ HasFew (λ u. last (number_in xs Paths) _ HasFew (λ p. last (number_in xs Nodes) _ HasFew (λ n. last (number_in xs Workers) _ HasFew
     (λ w. last (exec_in xs) _ HasFew (λ program. last (startable w program) _ HasFew (λ exec. last (kept_in xs) _ HasFew (λ path. last (takeable w path) _ HasFew (λ kept. last (flag_in xs Json) _ HasFew (λ j. last (flag_in xs Stats) _ HasFew
     (λ s. last (bits_in xs) _ HasFew (λ looks. last (with_text j (is_some looks) looks) _ HasFew (λ b. last (flag_in xs Leaks) _ HasFew (λ told. last (with_text j told told) _ HasFew
-    (λ k d is. few_where _ (files_of xs) d.files refl (files_kept (some_files (files_of xs)) (record { unroll = u; paths = p; nodes = n }) w exec kept j s b k d is)))))))))))))))) c e
+    (λ k. last (flag_in xs Real) _ HasFew (λ asked. last (without_leaks k asked) _ HasFew (λ r d is. few_where _ (files_of xs) d.files refl (files_kept (some_files (files_of xs)) (record { unroll = u; paths = p; nodes = n }) w exec kept j s b k r d is)))))))))))))))))) c e
 
 -- a command has no more files than it may
 pub few_files : (words : List Text) (c : Command) → meaning_of words ≡ Some c → length c.files ≤ most_files

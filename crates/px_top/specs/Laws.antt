@@ -10,6 +10,7 @@ use Rattle.px_lines.specs.declared.status.Status.{Status}
 use Rattle.px_lines.specs.declared.status.Status.TheVariants as S
 use Rattle.px_lines.specs.Sinks.{Change, change, Grew}
 use Rattle.px_lines.specs.Lines.{out_of_memory_line}
+use Rattle.px_loading.specs.Languages.{language_of}
 use Rattle.px_loading.specs.Refusals.{IsRefused}
 use Rattle.px_checking.specs.Ways.{Way}
 use Rattle.px_checking.specs.Answers.{Reported, IsToldAfter}
@@ -24,15 +25,15 @@ use Rattle.px_top.specs.NoFalseAlarm.{NoFalseAlarm}
 -- line that says why.
 pub record EndsWholeAlone (way : Way) (kinds : List ℕ) (out err : Change) (same : Type 0) (c : Command) (status : Status) : Type 0 where
   pub known : (status ≡ S.Done ⊎ status ≡ S.Bug) ⊎ (status ≡ S.Refused ⊎ status ≡ S.NoMemory)
-  pub done : status ≡ S.Done ⊎ status ≡ S.Bug → (given : List Given) × (text : List ℕ) × (r : Reported way kinds c.files given text) × Grew out text × IsToldAfter err same (way.line r.on.findings)
-  pub refused : status ≡ S.Refused → (given : List Given) × (line : List ℕ) × IsRefused c.files given line × Grew err line
+  pub done : status ≡ S.Done ⊎ status ≡ S.Bug → (given : List Given) × (text : List ℕ) × (r : Reported (language_of c.real) way kinds c.files given text) × Grew out text × IsToldAfter err same (way.line r.on.findings)
+  pub refused : status ≡ S.Refused → (given : List Given) × (line : List ℕ) × IsRefused (language_of c.real) c.files given line × Grew err line
   pub spent : status ≡ S.NoMemory → Grew err out_of_memory_line
 
 -- the same of a check with the help of the summaries that the file of this path keeps, which may be refused too
 pub record EndsWholeWith (kinds : List ℕ) (out err : Change) (same : Type 0) (c : Command) (path : Text) (status : Status) : Type 0 where
   pub known : (status ≡ S.Done ⊎ status ≡ S.Bug) ⊎ (status ≡ S.Refused ⊎ status ≡ S.NoMemory)
-  pub done : status ≡ S.Done ⊎ status ≡ S.Bug → (given : List Given) × (kept : Option Given) × (text : List ℕ) × (r : ReportedWith c.limits (form c.json) c.stats (more_of c) kinds c.files given kept text) × Grew out text × IsToldAfter err same (line_after r)
-  pub refused : status ≡ S.Refused → (given : List Given) × (kept : Option Given) × (line : List ℕ) × (IsRefused c.files given line ⊎ IsKeptRefused path kept line) × Grew err line
+  pub done : status ≡ S.Done ⊎ status ≡ S.Bug → (given : List Given) × (kept : Option Given) × (text : List ℕ) × (r : ReportedWith (language_of c.real) c.limits (form c.json) c.stats (more_of c) kinds c.files given kept text) × Grew out text × IsToldAfter err same (line_after r)
+  pub refused : status ≡ S.Refused → (given : List Given) × (kept : Option Given) × (line : List ℕ) × (IsRefused (language_of c.real) c.files given line ⊎ IsKeptRefused path kept line) × Grew err line
   pub spent : status ≡ S.NoMemory → Grew err out_of_memory_line
 
 abbrev pub EndsWhole : Way → List ℕ → Change → Change → Type 0 → Command → Status → Option Text → Type 0

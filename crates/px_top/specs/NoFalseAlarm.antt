@@ -6,6 +6,7 @@ use Rattle.px_syntax.specs.ProgramTree.{ProgramTree}
 use Rattle.px_lines.specs.declared.status.Status.{Status}
 use Rattle.px_lines.specs.declared.status.Status.TheVariants.{Done, Bug}
 use Rattle.px_lines.specs.Sinks.{Change, Grew}
+use Rattle.px_loading.specs.Languages.{language_of}
 use Rattle.px_loading.specs.Inputs.{AgreeAll, Says}
 use Rattle.px_words.specs.Meaning.{Command}
 use Rattle.px_text_report.specs.declared.reports.Report.{Report}
@@ -22,7 +23,7 @@ module _ {F : Type 0} (told : F → List ℕ → Option (List ℕ)) (gives : F �
   IsReadLast None after = files_new ≡ after
   IsReadLast (Some path) after = (bytes : List ℕ) × gives after path (Ok bytes) files_new
 
-  -- The files of a command gave these bytes, each read once, in order, and after them what is named of kept summaries; they say this program, what is left out of it aside; the
+  -- The files of a command gave these bytes, each read once, in order, and after them what is named of kept summaries; they say this program, in the language of the command and what is left out of it aside; the
   -- output has grown by this report on it, in the form that was asked for, by a text of looks at bits and by that of these leaks, where
   -- they were asked for; each bug of the report is manifest in the program, and each leak is one of it.
   pub record IsTrueReport (c : Command) : Type 0 where
@@ -32,7 +33,7 @@ module _ {F : Type 0} (told : F → List ℕ → Option (List ℕ)) (gives : F �
     pub last : IsReadLast c.kept after
     pub contents : AgreeAll (told files_old) c.files (map Ok sources)
     pub program : ProgramTree
-    pub says : Says c.files sources program
+    pub says : Says (language_of c.real) c.files sources program
     pub report : Report
     pub looks : List ℕ
     pub looks_asked : c.bits ≡ None → looks ≡ []

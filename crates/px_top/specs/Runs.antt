@@ -9,6 +9,7 @@ use Rattle.px_serving.specs.Works.{Works}
 use Rattle.px_report.specs.Forms.{form}
 use Rattle.px_checking.specs.Kinds.{IsRisingOf}
 use Rattle.px_top.specs.Words.{Request, how_to_use, no_words, IfReport, IfKeep, IfSample, IfNoFiles, IfWorker, IfNoWorker}
+use Rattle.px_loading.specs.Languages.{language_of}
 use Rattle.px_loading.specs.Stops.{GivesAll}
 use Rattle.px_lines.specs.declared.cause.Cause.{Cause}
 use Rattle.px_lines.specs.declared.status.Status.{Status}
@@ -66,10 +67,10 @@ module _ (says : JobTree → Table → Type 0) (told_old told_new : Option Numbe
   -- was read after them, or none was
   abbrev pub AnswersBy : Status → Command → Option Text → Type 0
   AnswersBy status c (Some path) = (given : List Given) × (kept : Option Given) × GivesWithKept file_told file_count gives files_old files_new c.files path given kept
-      × AnswersWith c.limits (form c.json) c.stats (more_of c) kinds c.files path given kept (change out_told out_count out_old out_new) (change err_told err_count err_old err_new) (err_new ≡ err_old) status
+      × AnswersWith (language_of c.real) c.limits (form c.json) c.stats (more_of c) kinds c.files path given kept (change out_told out_count out_old out_new) (change err_told err_count err_old err_new) (err_new ≡ err_old) status
   AnswersBy status c None = (given : List Given) × GivesAll file_told file_count gives files_old files_new c.files given
-      × Answers (way_of says told_old told_new c) kinds c.files given (change out_told out_count out_old out_new) (change err_told err_count err_old err_new) (err_new ≡ err_old) status
-      × HasLines c.files given (change err_told err_count err_old err_new) status
+      × Answers (language_of c.real) (way_of says told_old told_new c) kinds c.files given (change out_told out_count out_old out_new) (change err_told err_count err_old err_new) (err_new ≡ err_old) status
+      × HasLines (language_of c.real) c.files given (change err_told err_count err_old err_new) status
 
   abbrev pub AnswersCommand : Status → Command → Type 0
   AnswersCommand status c = AnswersBy status c c.kept

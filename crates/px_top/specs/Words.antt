@@ -30,6 +30,7 @@ check_view c = record {
   stats = c.check.stats;
   bits = c.check.more.bits;
   leaks = c.check.more.leaks;
+  real = c.check.real;
   files = texts c.check.names.items;
 }
 
@@ -44,7 +45,7 @@ abbrev pub worker_asked : List Text → Option Asked
 worker_asked [] = Some a_worker
 worker_asked (word ∷ words) = None
 
--- what `check [--unroll K] [--paths N] [--nodes N] [--workers W] [--exec PATH] [--kept PATH] [--json] [--stats] [--bits K] [--leaks] FILE..`,
+-- what `check [--unroll K] [--paths N] [--nodes N] [--workers W] [--exec PATH] [--kept PATH] [--json] [--stats] [--bits K] [--leaks] [--real] FILE..`,
 -- `keep [--unroll K] [--paths N] [--nodes N] FILE..`, `worker` or `sample START N` asks for, or none where the words are none of these
 abbrev pub command_of : List Text → Option Asked
 command_of [] = None

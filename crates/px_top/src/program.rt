@@ -107,11 +107,12 @@ fn report<R: Threads + Wait + Sync, F: Files, K: Sink, E: Sink, S: Spawner>(
 
 // The same check with the help of the summaries that this file keeps, in place of workers.
 fn with_kept(check: Check, path: String) -> KeptCheck
-    ensures { result ≡ record { limits = check.limits; names = check.names; path = path; stats = check.stats; more = check.more } }
+    ensures { result ≡ record { limits = check.limits; names = check.names; real = check.real; path = path; stats = check.stats; more = check.more } }
 {
     let Check {
         limits,
         names,
+        real,
         stats,
         more,
         ..
@@ -119,6 +120,7 @@ fn with_kept(check: Check, path: String) -> KeptCheck
     KeptCheck {
         limits,
         names,
+        real,
         path,
         stats,
         more,

@@ -35,7 +35,7 @@ pub enum Command {
     Sample(Sample),
 }
 
-/// Reads `check [--unroll K] [--paths N] [--nodes N] [--workers W] [--exec PATH] [--kept PATH] [--json] [--stats] [--bits K] [--leaks] FILE..`,
+/// Reads `check [--unroll K] [--paths N] [--nodes N] [--workers W] [--exec PATH] [--kept PATH] [--json] [--stats] [--bits K] [--leaks] [--real] FILE..`,
 /// `keep [--unroll K] [--paths N] [--nodes N] FILE..`, `worker` or `sample START N`, or answers none where the words are none of these. The
 /// last two take no memory.
 pub fn read_command(alloc: Global, words: &[String]) -> Result<Option<Command>, NoMemory>
@@ -88,7 +88,7 @@ fn worker(words: &[String]) -> Option<Command>
     }
 }
 
-/// Reads `[--unroll K] [--paths N] [--nodes N] [--workers W] [--exec PATH] [--kept PATH] [--json] [--stats] [--bits K] [--leaks] FILE..`, or answers none where the words aren't that.
+/// Reads `[--unroll K] [--paths N] [--nodes N] [--workers W] [--exec PATH] [--kept PATH] [--json] [--stats] [--bits K] [--leaks] [--real] FILE..`, or answers none where the words aren't that.
 pub fn options(alloc: Global, words: &[String]) -> Result<Option<ReportAsked>, NoMemory>
     ensures command { IfOk result (λ o. option_map check_view o ≡ meaning_of (texts words.now)) }
     ensures few { IfOk result (λ o. IfSome o (λ c. length c.check.names.items ≤ most_files)) }
@@ -118,6 +118,7 @@ fn asked(alloc: Global, read: &Options<'_>) -> Result<ReportAsked, NoMemory>
         check: Check {
             limits: read.limits,
             names: owned(alloc, &read.files)?,
+            real: read.real,
             pool: Pool {
                 workers: read.workers,
                 program: own_word(alloc, read.exec)?,

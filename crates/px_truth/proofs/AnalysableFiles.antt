@@ -1,12 +1,16 @@
 -- Programs of files are analysable.
-use Rattle.std.proofs.Common.{List, ℕ, sym, subst}
+use Rattle.std.proofs.Common.{List, ℕ}
 use Rattle.px_io.specs.Reads.{Given}
 use Rattle.px_syntax.specs.ProgramTree.{ProgramTree}
-use Rattle.px_programs.proofs.ProgramsTyped.{numbers}
+use Rattle.px_loading.specs.declared.language.Language.{Language}
+use Rattle.px_loading.specs.Inputs.{sources_of}
 use Rattle.px_loading.specs.Refusals.{SaysAlone}
 use Rattle.px_truth.specs.Analysable.{IsAnalysable}
 use Rattle.px_truth.proofs.NamedCalls.{calls_named}
+use Rattle.px_truth.proofs.SaidPrograms.{says_well_formed}
 
 -- no function has too many parameters, and each that is called has a name
-pub analysable : (names : List (List ℕ)) (given : List Given) (P : ProgramTree) → SaysAlone names given P → IsAnalysable P
-analysable names given P says = subst IsAnalysable (sym says.1.0.2) (record { few = (numbers says.1.0.0).few; named = calls_named says.1.0.0 })
+pub analysable : (l : Language) (names : List (List ℕ)) (given : List Given) (P : ProgramTree) → SaysAlone l names given P → IsAnalysable P
+analysable l names given P says =
+    let h = says_well_formed l names (sources_of given) P says.1.0 in
+    record { few = h.few; named = calls_named P h }

@@ -14,7 +14,6 @@ use Rattle.px_entry.specs.declared.entries.Entry.{Entry}
 use Rattle.px_entry.specs.declared.tables.Table.{Table}
 use Rattle.px_entry.specs.Regular.{IsRegular}
 use Rattle.px_entry.proofs.Lists.{Each, each_all, all_each}
-use Rattle.px_syntax.specs.ParsedTree.{FileTree}
 use Rattle.px_syntax.specs.ProgramTree.{ProcedureTree, ProgramTree}
 use Rattle.px_callgraph.specs.declared.jobs.Callee.{Callee}
 use Rattle.px_callgraph.specs.declared.jobs.Callee.TheVariants as callee
@@ -22,12 +21,11 @@ use Rattle.px_callgraph.specs.JobTree.{JobTree, callee_in}
 use Rattle.px_callgraph.specs.Callees.{IsCallee, AreTogether}
 use Rattle.px_meaning.specs.CoreCalls.{CoreProgram, CoreCallsWithin}
 use Rattle.px_meaning.specs.TypedProgram.{typed_program}
-use Rattle.px_typing.specs.Programs.{program_of}
 use Rattle.px_lower.specs.LoweredProgram.{lowered}
 use Rattle.px_lower.specs.LoweringKeeps.{LoweringKeeps}
 use Rattle.px_lower.specs.Scopes.{KeepsScopes}
-use Rattle.px_programs.specs.Laws.{ProgramsKeepTyping, ProgramsHaveTheirNumbers}
-use Rattle.px_programs.specs.BodyLaws.{bodies_of_files, BodiesOfFilesKeep}
+use Rattle.px_programs.specs.WellFormed.{IsWellFormedProgram}
+use Rattle.px_programs.specs.BodyLaws.{bodies_of, BodiesOfProgramsKeep}
 use Rattle.px_programs.specs.ListedBodies.{IsCommandListed, AreCommandsListed}
 use Rattle.px_symexec.specs.One.{Work, IsTabled, IsKnown, IsJob, IsTableIn}
 use Rattle.px_soundness.specs.Laws.{IsJobOf}
@@ -107,18 +105,13 @@ module _ (w : Work) (tables : ℕ → Option Table) (f : ℕ) where
 
 -- the laws on which this stands
 pub record Covering : Type 0 where
-  pub numbers : ProgramsHaveTheirNumbers
-  pub typing : ProgramsKeepTyping
-  pub bodies : BodiesOfFilesKeep
+  pub bodies : BodiesOfProgramsKeep
   pub lowering : LoweringKeeps
   pub covers : TablesCover
 
-module _ (laws : Covering) (files : List FileTree) (limits : LimitNumbers) (kinds : List ℕ) (f : Found) (found : AreFound (program_of files) limits kinds f) where
-  abbrev P : ProgramTree
-  P = program_of files
-
+module _ (laws : Covering) (P : ProgramTree) (keeps : IsWellFormedProgram P) (limits : LimitNumbers) (kinds : List ℕ) (f : Found) (found : AreFound P limits kinds f) where
   abbrev Core : CoreProgram
-  Core = bodies_of_files files
+  Core = bodies_of P
 
   abbrev Works : Work
   Works = work_of P limits kinds
@@ -137,16 +130,16 @@ module _ (laws : Covering) (files : List FileTree) (limits : LimitNumbers) (kind
         by : (o : Option ProcedureTree) → slice_get P.procedures n ≡ o → option_map lowered o ≡ Some b → length b.parameters ≤ most_variables
         by None at' e = absurd (none-some b e)
         by (Some p) at' e =
-            let few : length p.parameters ≤ most_parameters = all_in (λ (q : ProcedureTree). length q.parameters ≤ most_parameters) P.procedures p (laws.numbers files).few (in_at P.procedures n p at') in
+            let few : length p.parameters ≤ most_parameters = all_in (λ (q : ProcedureTree). length q.parameters ≤ most_parameters) P.procedures p keeps.few (in_at P.procedures n p at') in
             let m : length p.parameters ≤ most_variables = omega (arith, few) in
             subst (λ (c : BodyTree). length c.parameters ≤ most_variables) (same_Some _ _ e) m
 
     lowered_job : (n : ℕ) (j : JobTree) → IsJob Works (tables_in f) n j → IsLoweredJob Core j
     lowered_job n j job = record {
       job = is_job n j job;
-      typed = laws.bodies.types files;
-      well_formed = laws.bodies.well_formed files n j.body (has_body n j job);
-      frees = free_known (length P.names) P.types j.body.commands (laws.bodies.listed files n j.body (has_body n j job)).commands;
+      typed = (laws.bodies P keeps).types;
+      well_formed = (laws.bodies P keeps).well_formed n j.body (has_body n j job);
+      frees = free_known (length P.names) P.types j.body.commands ((laws.bodies P keeps).listed n j.body (has_body n j job)).commands;
       few_parameters = few_parameters n j.body (has_body n j job);
     }
 
@@ -190,7 +183,7 @@ module _ (laws : Covering) (files : List FileTree) (limits : LimitNumbers) (kind
     -- ---- the executions of the trees
 
     scopes : KeepsScopes (typed_program P)
-    scopes = laws.lowering.typed (typed_program P) (laws.typing files)
+    scopes = laws.lowering.typed (typed_program P) keeps.typing
 
     pub all_covered : AreCovered P limits.unroll f
     all_covered n p t at' is = λ arguments before calling trace ending after execution.

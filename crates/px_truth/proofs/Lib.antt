@@ -13,4 +13,5 @@ pub mod ToldItems
 pub mod CoveredCalls
 pub mod TrueEntries
 mod NamedCalls
+pub mod SaidPrograms
 pub mod AnalysableFiles

@@ -4,10 +4,10 @@ use Rattle.std.specs.Prelude.{slice_get, IsSomeAnd}
 use Rattle.px_core.specs.CommandTree.{CommandTree, CommandTrees, assign, unset, read, test, choose, loop, leave, load, store, malloc, free, input, call, return, break, continue, stop, no_commands, a_command, divide}
 use Rattle.px_core.specs.BodyTree.{BodyTree}
 use Rattle.px_callgraph.specs.Callees.{Names, NamedIn}
-use Rattle.px_syntax.specs.ParsedTree.{FileTree}
-use Rattle.px_typing.specs.Programs.{program_of}
+use Rattle.px_syntax.specs.ProgramTree.{ProgramTree}
 use Rattle.px_lower.specs.LoweredProgram.{lowered}
 use Rattle.px_programs.specs.ListedBodies.{IsCommandListed, AreCommandsListed}
+use Rattle.px_programs.specs.WellFormed.{IsWellFormedProgram}
 use Rattle.px_programs.proofs.BodiesKept.{listed}
 use Rattle.px_findings.specs.Bodies.{CallsNamed}
 
@@ -38,9 +38,9 @@ module _ (names types g : ℕ) where
     all_below no_commands h k = absurd k
     all_below (a_command c rest) h k = elim k [ inl l ↦ named_below c h.0 l | inr r ↦ all_below rest h.1 r ]
 
-pub calls_named : (files : List FileTree) → CallsNamed (program_of files)
-calls_named files f g k = go (option_map lowered (slice_get (program_of files).procedures f)) refl k
+pub calls_named : (P : ProgramTree) → IsWellFormedProgram P → CallsNamed P
+calls_named P h f g k = go (option_map lowered (slice_get P.procedures f)) refl k
   where
-    go : (o : Option BodyTree) → option_map lowered (slice_get (program_of files).procedures f) ≡ o → IsSomeAnd o (λ b. NamedIn g b.commands) → g < length (program_of files).names
+    go : (o : Option BodyTree) → option_map lowered (slice_get P.procedures f) ≡ o → IsSomeAnd o (λ b. NamedIn g b.commands) → g < length P.names
     go None e k = absurd k
-    go (Some b) e k = all_below (length (program_of files).names) (length (program_of files).types) g b.commands (listed files f b e).commands k
+    go (Some b) e k = all_below (length P.names) (length P.types) g b.commands (listed P h f b e).commands k

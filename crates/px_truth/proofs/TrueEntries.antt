@@ -22,8 +22,9 @@ use Rattle.px_typing.specs.Programs.{program_of}
 use Rattle.px_bodies.specs.Functions.{NumbersDontMatter}
 use Rattle.px_lower.specs.LoweredProgram.{lowered}
 use Rattle.px_lower.specs.LoweringKeeps.{LoweringKeeps}
-use Rattle.px_programs.specs.Laws.{ProgramsKeepTyping, ProgramsHaveTheirNumbers}
-use Rattle.px_programs.specs.BodyLaws.{bodies_of_files, BodiesOfFilesKeep}
+use Rattle.px_programs.specs.WellFormed.{IsWellFormedProgram}
+use Rattle.px_programs.specs.Laws.{ProgramsHaveTheirNumbers}
+use Rattle.px_programs.specs.BodyLaws.{bodies_of, BodiesOfProgramsKeep}
 use Rattle.px_programs.specs.TripleLaws.{TriplesAreOfTrees}
 use Rattle.px_symexec.specs.One.{Work, IsJob}
 use Rattle.px_soundness.specs.Laws.{IsJobOf, IsEntryOf, HasTrueTables, IsTrueEntry, EntriesAreValid, CheckedAreValid}
@@ -59,7 +60,7 @@ use Rattle.px_soundness.proofs.CallReady.{get_there}
 
 pub record Below : Type 0 where
   pub numbers : ProgramsHaveTheirNumbers
-  pub bodies : BodiesOfFilesKeep
+  pub bodies : BodiesOfProgramsKeep
   pub triples : TriplesAreOfTrees
   pub valid : EntriesAreValid
   pub checked : CheckedAreValid
@@ -68,7 +69,6 @@ pub record Below : Type 0 where
   pub bugs : BugsAreOfEntries
   pub leaks : LeaksAreOfEntries
   pub leaking : LeaksAreRight
-  pub typing : ProgramsKeepTyping
   pub lowering : LoweringKeeps
   pub covers : TablesCover
   pub by_any_numbers : NumbersDontMatter
@@ -82,12 +82,9 @@ body_of (Some p) b e = by (is_too_large p) e
     by true e = absurd (none-some b e)
     by false e = e
 
-module _ (laws : Below) (files : List FileTree) (limits : LimitNumbers) (kinds : List ℕ) (f : Found) (found : AreCertified (program_of files) limits kinds f) where
-  abbrev P : ProgramTree
-  P = program_of files
-
+module _ (laws : Below) (P : ProgramTree) (keeps : IsWellFormedProgram P) (limits : LimitNumbers) (kinds : List ℕ) (f : Found) (found : AreCertified P limits kinds f) where
   abbrev Core : CoreProgram
-  Core = bodies_of_files files
+  Core = bodies_of P
 
   abbrev Works : Work
   Works = work_of P limits kinds
@@ -100,7 +97,7 @@ module _ (laws : Below) (files : List FileTree) (limits : LimitNumbers) (kinds :
   is_job : (n : ℕ) (j : JobTree) → IsJob Works (tables_in f) n j → IsJobOf Core j
   is_job n j job = record {
     body = ap Core.bodies job.proc ∙ has_body n j job;
-    constants = laws.bodies.ranges files n j.body (has_body n j job);
+    constants = (laws.bodies P keeps).ranges n j.body (has_body n j job);
     types = job.types;
   }
 
@@ -122,7 +119,7 @@ module _ (laws : Below) (files : List FileTree) (limits : LimitNumbers) (kinds :
   -- ---- the procedure's own words
 
   number_is : (n : ℕ) (p : ProcedureTree) → slice_get P.procedures n ≡ Some p → p.proc.0 ≡ n
-  number_is n p at = ((laws.numbers files).functions n p at).numbered
+  number_is n p at = keeps.numbered n p at
 
   is_own : (n : ℕ) (p : ProcedureTree) (x : Entry) → slice_get P.procedures n ≡ Some p → IsTrueAt n x → IsTrueEntry Core (record { proc = p.proc; body = lowered p; types = P.types; callees = []; limits = limits; kinds = kinds; ticket = 0 }) x
   is_own n p x at (j, body, proc, (entry, satisfied)) =
@@ -137,7 +134,7 @@ module _ (laws : Below) (files : List FileTree) (limits : LimitNumbers) (kinds :
         proc = t.0.proc;
         regular = t.0.regular;
         satisfied = t.1;
-        valid = subst (λ m. IsValid (TreeCalls (typed_program P) m) (length p.parameters) (entry_of c)) (number_is n p at) ((laws.triples files p.proc.0 (length p.parameters) (entry_of c)).1 t.0.valid);
+        valid = subst (λ m. IsValid (TreeCalls (typed_program P) m) (length p.parameters) (entry_of c)) (number_is n p at) ((laws.triples P keeps p.proc.0 (length p.parameters) (entry_of c)).1 t.0.valid);
       }
 
   are_true : AreTrue P f
@@ -155,7 +152,7 @@ module _ (laws : Below) (files : List FileTree) (limits : LimitNumbers) (kinds :
       let t = is_own n p h.entry at (true_at n h.entry e) in
       let own : b.proc.0 ≡ p.proc.0 = ap (λ (g : ProcId). g.0) (h.has.proc ∙ t.0.proc) in
       let number : b.proc.0 ≡ n = own ∙ number_is n p at in
-      let valid = (laws.triples files p.proc.0 (length p.parameters) h.entry).1 t.0.valid in
+      let valid = (laws.triples P keeps p.proc.0 (length p.parameters) h.entry).1 t.0.valid in
       let m : IsManifest (TreeCalls (typed_program P) p.proc.0) P.types p.parameters (record { kind = b.kind; site = b.site; trace = h.entry.trace }) =
       laws.looks.tree (typed_program P) p.proc.0 P.types p.parameters p.result h.entry b.kind b.site t.0.regular valid t.1
       ((laws.test.looks h.entry t.1).0 h.has.looks) h.has.ends in (
@@ -184,7 +181,7 @@ module _ (laws : Below) (files : List FileTree) (limits : LimitNumbers) (kinds :
       let t = is_own n p h.entry at (true_at n h.entry e) in
       let own : h.entry.proc.0 ≡ p.proc.0 = ap (λ (g : ProcId). g.0) t.0.proc in
       let number : h.entry.proc.0 ≡ n = own ∙ number_is n p at in
-      let valid = (laws.triples files p.proc.0 (length p.parameters) h.entry).1 t.0.valid in
+      let valid = (laws.triples P keeps p.proc.0 (length p.parameters) h.entry).1 t.0.valid in
       let m : IsLeak (TreeCalls (typed_program P) p.proc.0) P.types p.parameters h.entry.trace (leak_of h.entry h.block).blocks =
       laws.leaking.tree (typed_program P) p.proc.0 P.types p.parameters p.result h.entry h.block t.0.regular valid t.1 h.loses in
       subst (IsLeakIn P) (sym h.is)
@@ -206,7 +203,7 @@ module _ (laws : Below) (files : List FileTree) (limits : LimitNumbers) (kinds :
 
   covered : AreFound P limits kinds f → AreCovered P limits.unroll f
   covered one =
-      all_covered (record { numbers = laws.numbers; typing = laws.typing; bodies = laws.bodies; lowering = laws.lowering; covers = laws.covers }) files limits kinds f one is_job has_body regular_at
+      all_covered (record { bodies = laws.bodies; lowering = laws.lowering; covers = laws.covers }) P keeps limits kinds f one is_job has_body regular_at
 
 -- so the items of other files that say the same program
 told : Below → (P : ProgramTree) (limits : LimitNumbers) (kinds : List ℕ) (f : Found) → AreCertified P limits kinds f → (files : List FileTree) → P ≡ program_of files → AreTold files P f
@@ -215,13 +212,13 @@ told laws P limits kinds f found files e =
 
 pub found_right : Below → FindingsAreSoundAndCover
 found_right laws = record {
-  sound = λ files limits kinds f found. record {
-    true = are_true laws files limits kinds f found;
-    manifest = all_manifest laws files limits kinds f found;
-    leaks = all_leaking laws files limits kinds f found;
-    shown = errors_shown laws.bugs laws.checked.derives (program_of files) limits kinds f found;
-    lacking = lacking_are_large (program_of files) limits kinds f found;
-    told = told laws (program_of files) limits kinds f found;
+  sound = λ P keeps limits kinds f found. record {
+    true = are_true laws P keeps limits kinds f found;
+    manifest = all_manifest laws P keeps limits kinds f found;
+    leaks = all_leaking laws P keeps limits kinds f found;
+    shown = errors_shown laws.bugs laws.checked.derives P limits kinds f found;
+    lacking = lacking_are_large P limits kinds f found;
+    told = told laws P limits kinds f found;
   };
-  cover = λ files limits kinds f found. covered laws files limits kinds f found.certified found;
+  cover = λ P keeps limits kinds f found. covered laws P keeps limits kinds f found.certified found;
 }

@@ -1,4 +1,4 @@
--- What is true of what is found out of the program that files say, by one process or by several.
+-- What is true of what is found out of a program that is well-formed, by one process or by several.
 use Rattle.std.specs.Prelude.{◌≡◌, ℕ, true, List, length, map, All, Contains, Some, None, slice_get, codes}
 use Rattle.std.specs.List.{list_any}
 use Rattle.px_base.specs.LimitNumbers.{LimitNumbers}
@@ -15,6 +15,7 @@ use Rattle.px_meaning.specs.Triples.{IsValid}
 use Rattle.px_meaning.specs.TreeCalls.{TreeCalls, BoundedTreeCalls}
 use Rattle.px_meaning.specs.TypedProgram.{typed_program}
 use Rattle.px_typing.specs.Programs.{program_of}
+use Rattle.px_programs.specs.WellFormed.{IsWellFormedProgram}
 use Rattle.px_check.specs.declared.checked.Checked.{Checked}
 use Rattle.px_check.specs.Answers.{entry_of, job_of}
 use Rattle.px_pieces.specs.declared.findings.Part.TheVariants.{Tabled}
@@ -84,13 +85,13 @@ pub record AreSound (P : ProgramTree) (f : Found) : Type 0 where
   pub shown : ErrorsAreShown f
   pub leaks : LeaksAreTrue P f
   pub lacking : AreTooLarge P f
-  -- whatever files say the program
+  -- whatever files of the profile say the program
   pub told : (files : List FileTree) → P ≡ program_of files → AreTold files P f
 
 pub record FindingsAreSoundAndCover : Type 0 where
-  pub sound : (files : List FileTree) (limits : LimitNumbers) (kinds : List ℕ) (f : Found) → AreCertified (program_of files) limits kinds f → AreSound (program_of files) f
+  pub sound : (P : ProgramTree) → IsWellFormedProgram P → (limits : LimitNumbers) (kinds : List ℕ) (f : Found) → AreCertified P limits kinds f → AreSound P f
   -- and the tables that one process makes cover what happens within the bound
-  pub cover : (files : List FileTree) (limits : LimitNumbers) (kinds : List ℕ) (f : Found) → AreFound (program_of files) limits kinds f → AreCovered (program_of files) limits.unroll f
+  pub cover : (P : ProgramTree) → IsWellFormedProgram P → (limits : LimitNumbers) (kinds : List ℕ) (f : Found) → AreFound P limits kinds f → AreCovered P limits.unroll f
 
 -- one process finds one thing
 abbrev pub OneIsFound : Type 0

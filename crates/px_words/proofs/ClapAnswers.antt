@@ -6,7 +6,7 @@ use Rattle.clap.specs.Kinds.{Kinds, or_else}
 use Rattle.clap.specs.Walk.{Rule, Row, Walk, idle, walked, with_default, settled, has_row, is_empty}
 use Rattle.clap.specs.Simple.{entered, built, matches_of}
 use Rattle.clap.specs.Faults.{walk_fault, settle_fault, defaults_fault, given_default_fault, check_fault, entered_fault, fault_of}
-use Rattle.px_words.specs.declared.flag_name.FlagName.TheVariants.{Json, Stats, Leaks}
+use Rattle.px_words.specs.declared.flag_name.FlagName.TheVariants.{Json, Stats, Leaks, Real}
 use Rattle.px_words.specs.declared.option_name.OptionName.TheVariants.{Number, Exec, Bits, Kept}
 use Rattle.px_words.specs.declared.option_name.NumberName.TheVariants.{Unroll, Paths, Nodes, Workers}
 use Rattle.px_words.specs.OptionTable.{all_flags}
@@ -35,7 +35,7 @@ defaults_fine rows (a ∷ left) h =
     ap (λ ks. or_else ks (defaults_fault (with_default rows a) left)) (default_fine (has_row a.id rows || is_empty a.defaults) (given_default_fault a a.defaults) h.0) ∙ defaults_fine (with_default rows a) left h.1
 
 all_fine : HaveFineDefaults rules
-all_fine = (refl, (refl, (refl, (refl, (refl, (refl, (refl, (refl, (refl, (refl, (refl, tt)))))))))))
+all_fine = (refl, (refl, (refl, (refl, (refl, (refl, (refl, (refl, (refl, (refl, (refl, (refl, tt))))))))))))
 
 -- flags that aren't given
 abbrev pub with_flags : List Row → List Row
@@ -43,13 +43,13 @@ with_flags rows = fold with_default rows (map flag_built all_flags)
 
 defaults_are : (rows : List Row) → fold with_default rows rules ≡ with_flags rows
 defaults_are rows =
-    ap (λ (rs : List Row). fold with_default rs (option_built (Number Paths) ∷ option_built (Number Nodes) ∷ option_built (Number Workers) ∷ option_built Exec ∷ option_built Bits ∷ option_built Kept ∷ flag_built Json ∷ flag_built Stats ∷ flag_built Leaks ∷ file_built ∷ [])) (no_default (option_built (Number Unroll)) rows refl)
-    ∙ ap (λ (rs : List Row). fold with_default rs (option_built (Number Nodes) ∷ option_built (Number Workers) ∷ option_built Exec ∷ option_built Bits ∷ option_built Kept ∷ flag_built Json ∷ flag_built Stats ∷ flag_built Leaks ∷ file_built ∷ [])) (no_default (option_built (Number Paths)) rows refl)
-    ∙ ap (λ (rs : List Row). fold with_default rs (option_built (Number Workers) ∷ option_built Exec ∷ option_built Bits ∷ option_built Kept ∷ flag_built Json ∷ flag_built Stats ∷ flag_built Leaks ∷ file_built ∷ [])) (no_default (option_built (Number Nodes)) rows refl)
-    ∙ ap (λ (rs : List Row). fold with_default rs (option_built Exec ∷ option_built Bits ∷ option_built Kept ∷ flag_built Json ∷ flag_built Stats ∷ flag_built Leaks ∷ file_built ∷ [])) (no_default (option_built (Number Workers)) rows refl)
-    ∙ ap (λ (rs : List Row). fold with_default rs (option_built Bits ∷ option_built Kept ∷ flag_built Json ∷ flag_built Stats ∷ flag_built Leaks ∷ file_built ∷ [])) (no_default (option_built Exec) rows refl)
-    ∙ ap (λ (rs : List Row). fold with_default rs (option_built Kept ∷ flag_built Json ∷ flag_built Stats ∷ flag_built Leaks ∷ file_built ∷ [])) (no_default (option_built Bits) rows refl)
-    ∙ ap (λ (rs : List Row). fold with_default rs (flag_built Json ∷ flag_built Stats ∷ flag_built Leaks ∷ file_built ∷ [])) (no_default (option_built Kept) rows refl)
+    ap (λ (rs : List Row). fold with_default rs (option_built (Number Paths) ∷ option_built (Number Nodes) ∷ option_built (Number Workers) ∷ option_built Exec ∷ option_built Bits ∷ option_built Kept ∷ flag_built Json ∷ flag_built Stats ∷ flag_built Leaks ∷ flag_built Real ∷ file_built ∷ [])) (no_default (option_built (Number Unroll)) rows refl)
+    ∙ ap (λ (rs : List Row). fold with_default rs (option_built (Number Nodes) ∷ option_built (Number Workers) ∷ option_built Exec ∷ option_built Bits ∷ option_built Kept ∷ flag_built Json ∷ flag_built Stats ∷ flag_built Leaks ∷ flag_built Real ∷ file_built ∷ [])) (no_default (option_built (Number Paths)) rows refl)
+    ∙ ap (λ (rs : List Row). fold with_default rs (option_built (Number Workers) ∷ option_built Exec ∷ option_built Bits ∷ option_built Kept ∷ flag_built Json ∷ flag_built Stats ∷ flag_built Leaks ∷ flag_built Real ∷ file_built ∷ [])) (no_default (option_built (Number Nodes)) rows refl)
+    ∙ ap (λ (rs : List Row). fold with_default rs (option_built Exec ∷ option_built Bits ∷ option_built Kept ∷ flag_built Json ∷ flag_built Stats ∷ flag_built Leaks ∷ flag_built Real ∷ file_built ∷ [])) (no_default (option_built (Number Workers)) rows refl)
+    ∙ ap (λ (rs : List Row). fold with_default rs (option_built Bits ∷ option_built Kept ∷ flag_built Json ∷ flag_built Stats ∷ flag_built Leaks ∷ flag_built Real ∷ file_built ∷ [])) (no_default (option_built Exec) rows refl)
+    ∙ ap (λ (rs : List Row). fold with_default rs (option_built Kept ∷ flag_built Json ∷ flag_built Stats ∷ flag_built Leaks ∷ flag_built Real ∷ file_built ∷ [])) (no_default (option_built Bits) rows refl)
+    ∙ ap (λ (rs : List Row). fold with_default rs (flag_built Json ∷ flag_built Stats ∷ flag_built Leaks ∷ flag_built Real ∷ file_built ∷ [])) (no_default (option_built Kept) rows refl)
     ∙ no_default file_built (with_flags rows) refl
 
 none_entered : (stop : Option (Text × List Text)) → entered (built words_app) stop ≡ None

@@ -5,7 +5,7 @@ use Rattle.clap.specs.Walk.{Rule, Row, arg_by_id, arg_by_long, arg_by_short, arg
 use Rattle.clap.specs.Simple.{Shape, built, filled, with_index, names_of, is_simple}
 use Rattle.clap.specs.Faults.{is_simple_and_free}
 use Rattle.px_words.specs.declared.flag_name.FlagName.{FlagName}
-use Rattle.px_words.specs.declared.flag_name.FlagName.TheVariants.{Json, Stats, Leaks}
+use Rattle.px_words.specs.declared.flag_name.FlagName.TheVariants.{Json, Stats, Leaks, Real}
 use Rattle.px_words.specs.declared.option_name.OptionName.{OptionName}
 use Rattle.px_words.specs.declared.option_name.OptionName.TheVariants.{Number, Exec, Bits, Kept}
 use Rattle.px_words.specs.declared.option_name.NumberName.TheVariants.{Unroll, Paths, Nodes, Workers}
@@ -64,22 +64,23 @@ pub none_by_short : (c : ℕ) → arg_by_short rules c ≡ None
 none_by_short c = refl
 
 pub by_long : (name : Text) → arg_by_long rules name ≡ option_map called_built (called name)
-by_long name = go (bytes_eq (codes "unroll") name) (bytes_eq (codes "paths") name) (bytes_eq (codes "nodes") name) (bytes_eq (codes "workers") name) (bytes_eq (codes "exec") name) (bytes_eq (codes "bits") name) (bytes_eq (codes "kept") name) (bytes_eq (codes "json") name) (bytes_eq (codes "stats") name) (bytes_eq (codes "leaks") name)
+by_long name = go (bytes_eq (codes "unroll") name) (bytes_eq (codes "paths") name) (bytes_eq (codes "nodes") name) (bytes_eq (codes "workers") name) (bytes_eq (codes "exec") name) (bytes_eq (codes "bits") name) (bytes_eq (codes "kept") name) (bytes_eq (codes "json") name) (bytes_eq (codes "stats") name) (bytes_eq (codes "leaks") name) (bytes_eq (codes "real") name)
   where
-    go : (a b c d e f g h i j : Bool)
-        → cond (a || false) (Some (option_built (Number Unroll))) (cond (b || false) (Some (option_built (Number Paths))) (cond (c || false) (Some (option_built (Number Nodes))) (cond (d || false) (Some (option_built (Number Workers))) (cond (e || false) (Some (option_built Exec)) (cond (f || false) (Some (option_built Bits)) (cond (g || false) (Some (option_built Kept)) (cond (h || false) (Some (flag_built Json)) (cond (i || false) (Some (flag_built Stats)) (cond (j || false) (Some (flag_built Leaks)) None)))))))))
-        ≡ option_map called_built (cond a (Some (an_option (Number Unroll))) (cond b (Some (an_option (Number Paths))) (cond c (Some (an_option (Number Nodes))) (cond d (Some (an_option (Number Workers))) (cond e (Some (an_option Exec)) (cond f (Some (an_option Bits)) (cond g (Some (an_option Kept)) (cond h (Some (a_flag Json)) (cond i (Some (a_flag Stats)) (cond j (Some (a_flag Leaks)) None))))))))))
-    go true b c d e f g h i j = refl
-    go false true c d e f g h i j = refl
-    go false false true d e f g h i j = refl
-    go false false false true e f g h i j = refl
-    go false false false false true f g h i j = refl
-    go false false false false false true g h i j = refl
-    go false false false false false false true h i j = refl
-    go false false false false false false false true i j = refl
-    go false false false false false false false false true j = refl
-    go false false false false false false false false false true = refl
-    go false false false false false false false false false false = refl
+    go : (a b c d e f g h i j k : Bool)
+        → cond (a || false) (Some (option_built (Number Unroll))) (cond (b || false) (Some (option_built (Number Paths))) (cond (c || false) (Some (option_built (Number Nodes))) (cond (d || false) (Some (option_built (Number Workers))) (cond (e || false) (Some (option_built Exec)) (cond (f || false) (Some (option_built Bits)) (cond (g || false) (Some (option_built Kept)) (cond (h || false) (Some (flag_built Json)) (cond (i || false) (Some (flag_built Stats)) (cond (j || false) (Some (flag_built Leaks)) (cond (k || false) (Some (flag_built Real)) None))))))))))
+        ≡ option_map called_built (cond a (Some (an_option (Number Unroll))) (cond b (Some (an_option (Number Paths))) (cond c (Some (an_option (Number Nodes))) (cond d (Some (an_option (Number Workers))) (cond e (Some (an_option Exec)) (cond f (Some (an_option Bits)) (cond g (Some (an_option Kept)) (cond h (Some (a_flag Json)) (cond i (Some (a_flag Stats)) (cond j (Some (a_flag Leaks)) (cond k (Some (a_flag Real)) None)))))))))))
+    go true b c d e f g h i j k = refl
+    go false true c d e f g h i j k = refl
+    go false false true d e f g h i j k = refl
+    go false false false true e f g h i j k = refl
+    go false false false false true f g h i j k = refl
+    go false false false false false true g h i j k = refl
+    go false false false false false false true h i j k = refl
+    go false false false false false false false true i j k = refl
+    go false false false false false false false false true j k = refl
+    go false false false false false false false false false true k = refl
+    go false false false false false false false false false false true = refl
+    go false false false false false false false false false false false = refl
 
 -- only a flag has a default
 pub no_default : (a : Rule) (rows : List Row) → a.defaults ≡ [] → with_default rows a ≡ rows

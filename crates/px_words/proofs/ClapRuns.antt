@@ -10,7 +10,7 @@ use Rattle.clap.specs.Walk.{Rule, Row, Held, Step, Waiting, idle, positional, Wa
 use Rattle.clap.specs.Walk as W
 use Rattle.clap.specs.Faults.{turn_fault, walk_fault, settle_fault, use_fault, long_fault, step_fault, react_fault, positional_fault}
 use Rattle.px_words.specs.declared.flag_name.FlagName.{FlagName}
-use Rattle.px_words.specs.declared.flag_name.FlagName.TheVariants.{Json, Stats, Leaks}
+use Rattle.px_words.specs.declared.flag_name.FlagName.TheVariants.{Json, Stats, Leaks, Real}
 use Rattle.px_words.specs.declared.option_name.OptionName.{OptionName}
 use Rattle.px_words.specs.declared.option_name.OptionName.TheVariants.{Number, Exec, Bits, Kept}
 use Rattle.px_words.specs.declared.option_name.NumberName.TheVariants.{Unroll, Paths, Nodes, Workers}
@@ -205,6 +205,7 @@ module _ (rows : List Row) (p : Pend) (waiting : Waiting) (word : Text) (e : byt
   raised_takes Json l is = rule_takes (holds rows p) waiting word e name None l (Some (a_flag Json)) is
   raised_takes Stats l is = rule_takes (holds rows p) waiting word e name None l (Some (a_flag Stats)) is
   raised_takes Leaks l is = rule_takes (holds rows p) waiting word e name None l (Some (a_flag Leaks)) is
+  raised_takes Real l is = rule_takes (holds rows p) waiting word e name None l (Some (a_flag Real)) is
 
   unknown_faulty : (v : Option Text) → long_of word ≡ Some (name, v) → called name ≡ None → is_fine (turn_fault top [] old word) ≡ false
   unknown_faulty v l is = ap is_fine (rule_takes (holds rows p) waiting word e name v l None is).1
@@ -214,6 +215,7 @@ module _ (rows : List Row) (p : Pend) (waiting : Waiting) (word : Text) (e : byt
   flag_faulty Json v l is = ap is_fine (rule_takes (holds rows p) waiting word e name (Some v) l (Some (a_flag Json)) is).1
   flag_faulty Stats v l is = ap is_fine (rule_takes (holds rows p) waiting word e name (Some v) l (Some (a_flag Stats)) is).1
   flag_faulty Leaks v l is = ap is_fine (rule_takes (holds rows p) waiting word e name (Some v) l (Some (a_flag Leaks)) is).1
+  flag_faulty Real v l is = ap is_fine (rule_takes (holds rows p) waiting word e name (Some v) l (Some (a_flag Real)) is).1
 
   given_fine : (o : OptionName) (v : Text) (n : ℕ) → HasRoom p n
       → (is_fine (or_else (react_fault rules false (option_built o) (v ∷ []) (holds rows p)) []) && true) ≡ (pend_fine p rows && suits (option o v) (pend_rows p rows))
@@ -364,6 +366,11 @@ long_faulty rows o a (Some v) (Some (a_flag Leaks)) is = ap (λ r. is_fine (long
 long_faulty rows o a None (Some (a_flag Leaks)) is =
     let settle : Kinds = settle_fault rules false (holds rows (wanting o)) in
     let flag_fault : Kinds = use_fault false (flag_built Leaks) [] (settled_rows rules (pend_of (wanting o)) rows) in
+    ap (λ r. is_fine (long_fault rules false r None (holds rows (wanting o)))) is ∙ fine_or settle flag_fault ∙ ap (λ b. b && is_fine flag_fault) (settle_is (wanting o) rows 0 (omega arith))
+long_faulty rows o a (Some v) (Some (a_flag Real)) is = ap (λ r. is_fine (long_fault rules false r (Some v) (holds rows (wanting o)))) is
+long_faulty rows o a None (Some (a_flag Real)) is =
+    let settle : Kinds = settle_fault rules false (holds rows (wanting o)) in
+    let flag_fault : Kinds = use_fault false (flag_built Real) [] (settled_rows rules (pend_of (wanting o)) rows) in
     ap (λ r. is_fine (long_fault rules false r None (holds rows (wanting o)))) is ∙ fine_or settle flag_fault ∙ ap (λ b. b && is_fine flag_fault) (settle_is (wanting o) rows 0 (omega arith))
 long_faulty rows o a None (Some (an_option q)) is = ap (λ r. is_fine (long_fault rules false r None (holds rows (wanting o)))) is ∙ settle_is (wanting o) rows 0 (omega arith)
 long_faulty rows o a (Some v) (Some (an_option q)) is =

@@ -12,7 +12,7 @@ use Rattle.clap.specs.declared.error.kind.ErrorKind.TheVariants.{ArgumentConflic
 use Rattle.clap.specs.declared.parser.matches.ValueSource.{ValueSource}
 use Rattle.clap.specs.declared.parser.matches.ValueSource.TheVariants.{CommandLine, DefaultValue}
 use Rattle.px_words.specs.declared.flag_name.FlagName.{FlagName}
-use Rattle.px_words.specs.declared.flag_name.FlagName.TheVariants.{Json, Stats, Leaks}
+use Rattle.px_words.specs.declared.flag_name.FlagName.TheVariants.{Json, Stats, Leaks, Real}
 use Rattle.px_words.specs.declared.option_name.OptionName.{OptionName}
 use Rattle.px_words.specs.declared.option_name.OptionName.TheVariants.{Number, Exec, Bits, Kept}
 use Rattle.px_words.specs.declared.option_name.NumberName.TheVariants.{Unroll, Paths, Nodes, Workers}
@@ -104,6 +104,11 @@ flag_use Stats rows = go (has_row (flag_name Stats) rows)
     go true = refl
     go false = refl
 flag_use Leaks rows = go (has_row (flag_name Leaks) rows)
+  where
+    go : (b : Bool) → is_fine (or_else (cond (b && true) (ArgumentConflict ∷ []) []) []) ≡ not b
+    go true = refl
+    go false = refl
+flag_use Real rows = go (has_row (flag_name Real) rows)
   where
     go : (b : Bool) → is_fine (or_else (cond (b && true) (ArgumentConflict ∷ []) []) []) ≡ not b
     go true = refl

@@ -13,7 +13,7 @@ use Rattle.clap.specs.Walk.{Row, first_of, has_row}
 use Rattle.clap.specs.Simple.{matches_of}
 use Rattle.clap.specs.Faults.{fault_of}
 use Rattle.px_words.specs.declared.flag_name.FlagName.{FlagName}
-use Rattle.px_words.specs.declared.flag_name.FlagName.TheVariants.{Json, Stats, Leaks}
+use Rattle.px_words.specs.declared.flag_name.FlagName.TheVariants.{Json, Stats, Leaks, Real}
 use Rattle.px_words.specs.declared.option_name.OptionName.{OptionName}
 use Rattle.px_words.specs.declared.option_name.OptionName.TheVariants.{Number, Exec, Bits, Kept}
 use Rattle.px_words.specs.declared.option_name.NumberName.{NumberName}
@@ -22,7 +22,7 @@ use Rattle.px_base.specs.LimitNumbers.{LimitNumbers}
 use Rattle.px_words.specs.OptionTable.{option_name, flag_name, default_of}
 use Rattle.px_base.specs.Texts.{Text}
 use Rattle.px_words.specs.Arguments.{Argument, option, flag, file, Called, an_option, a_flag, name_of, arguments_of}
-use Rattle.px_words.specs.Meaning.{Command, number_of, number_in, exec_of, exec_in, kept_of, kept_in, bits_of, bits_in, startable, takeable, flag_by, flag_in, with_text, in_range, values_of, uses_of, files_of, some_files, none_in, is_bare, command_by, keep_by, meaning_of, keep_of, ◌>>=◌}
+use Rattle.px_words.specs.Meaning.{Command, number_of, number_in, exec_of, exec_in, kept_of, kept_in, bits_of, bits_in, startable, takeable, flag_by, flag_in, with_text, without_leaks, in_range, values_of, uses_of, files_of, some_files, none_in, is_bare, command_by, keep_by, meaning_of, keep_of, ◌>>=◌}
 use Rattle.px_words.specs.ClapCommand.{words_app, number_found, number_or, limits_within, exec_or_none, bits_or_none, HelpFound, flag_found, files_found, command_found, lacks, bare_found, keep_found}
 use Rattle.px_words.proofs.ClapSteps.{is_fine}
 use Rattle.px_words.proofs.ClapStates.{apply, suits}
@@ -127,44 +127,50 @@ under : {A B : Type 0} (o : Option A) (f : A → Option B) → ((x : A) → f x 
 under None f h = refl
 under (Some x) f h = h x
 
-abbrev command_from : Option ℕ → Option ℕ → Option ℕ → Option ℕ → Option (Option Text) → Option (Option Text) → Option Bool → Option Bool → Option (Option ℕ) → Option Bool → Option (List Text) → Option Command
-command_from u p n w x k j s b l f =
+abbrev command_from : Option ℕ → Option ℕ → Option ℕ → Option ℕ → Option (Option Text) → Option (Option Text) → Option Bool → Option Bool → Option (Option ℕ) → Option Bool → Option Bool → Option (List Text) → Option Command
+command_from u p n w x k j s b l r f =
     u >>= λ unroll. p >>= λ paths. n >>= λ nodes. w >>= λ workers. x >>= λ program. startable workers program >>= λ exec. k >>= λ path. takeable workers path >>= λ kept. j >>= λ json. s >>= λ stats.
-    b >>= λ looks. with_text json (is_some looks) looks >>= λ bits. l >>= λ told. with_text json told told >>= λ leaks. f >>= λ files.
-    Some (record { limits = record { unroll = unroll; paths = paths; nodes = nodes }; workers = workers; exec = exec; kept = kept; json = json; stats = stats; bits = bits; leaks = leaks; files = files })
+    b >>= λ looks. with_text json (is_some looks) looks >>= λ bits. l >>= λ told. with_text json told told >>= λ leaks.
+    r >>= λ asked. without_leaks leaks asked >>= λ real. f >>= λ files.
+    Some (record { limits = record { unroll = unroll; paths = paths; nodes = nodes }; workers = workers; exec = exec; kept = kept; json = json; stats = stats; bits = bits; leaks = leaks; real = real; files = files })
 
-module _ (u p n w : Option ℕ) (x k : Option (Option Text)) (j s : Option Bool) (b : Option (Option ℕ)) (l : Option Bool) (f : Option (List Text)) where
-  no_paths : command_from u None n w x k j s b l f ≡ None
+module _ (u p n w : Option ℕ) (x k : Option (Option Text)) (j s : Option Bool) (b : Option (Option ℕ)) (l r : Option Bool) (f : Option (List Text)) where
+  no_paths : command_from u None n w x k j s b l r f ≡ None
   no_paths = under u _ (λ _. refl)
 
-  no_nodes : command_from u p None w x k j s b l f ≡ None
+  no_nodes : command_from u p None w x k j s b l r f ≡ None
   no_nodes = under u _ (λ _. under p _ (λ _. refl))
 
-  no_workers : command_from u p n None x k j s b l f ≡ None
+  no_workers : command_from u p n None x k j s b l r f ≡ None
   no_workers = under u _ (λ _. under p _ (λ _. under n _ (λ _. refl)))
 
-  no_exec : command_from u p n w None k j s b l f ≡ None
+  no_exec : command_from u p n w None k j s b l r f ≡ None
   no_exec = under u _ (λ _. under p _ (λ _. under n _ (λ _. under w _ (λ _. refl))))
 
-  no_kept : command_from u p n w x None j s b l f ≡ None
+  no_kept : command_from u p n w x None j s b l r f ≡ None
   no_kept = under u _ (λ _. under p _ (λ _. under n _ (λ _. under w _ (λ d. under x _ (λ e. under (startable d e) _ (λ _. refl))))))
 
-  no_json : command_from u p n w x k None s b l f ≡ None
+  no_json : command_from u p n w x k None s b l r f ≡ None
   no_json =
       under u _ (λ _. under p _ (λ _. under n _ (λ _. under w _ (λ d. under x _ (λ e. under (startable d e) _ (λ _. under k _ (λ path. under (takeable d path) _ (λ _. refl))))))))
 
-  no_stats : command_from u p n w x k j None b l f ≡ None
+  no_stats : command_from u p n w x k j None b l r f ≡ None
   no_stats =
       under u _ (λ _. under p _ (λ _. under n _ (λ _. under w _ (λ d. under x _ (λ e. under (startable d e) _ (λ _. under k _ (λ path. under (takeable d path) _ (λ _. under j _ (λ _. refl)))))))))
 
-  no_bits : command_from u p n w x k j s None l f ≡ None
+  no_bits : command_from u p n w x k j s None l r f ≡ None
   no_bits =
       under u _ (λ _. under p _ (λ _. under n _ (λ _. under w _ (λ d. under x _ (λ e. under (startable d e) _ (λ _. under k _ (λ path. under (takeable d path) _ (λ _. under j _ (λ _. under s _ (λ _. refl))))))))))
 
-  no_leaks : command_from u p n w x k j s b None f ≡ None
+  no_leaks : command_from u p n w x k j s b None r f ≡ None
   no_leaks =
       under u _ (λ _. under p _ (λ _. under n _ (λ _. under w _ (λ d. under x _ (λ e. under (startable d e) _ (λ _. under k _ (λ path. under (takeable d path) _
       (λ _. under j _ (λ h. under s _ (λ _. under b _ (λ looks. under (with_text h (is_some looks) looks) _ (λ _. refl))))))))))))
+
+  no_real : command_from u p n w x k j s b l None f ≡ None
+  no_real =
+      under u _ (λ _. under p _ (λ _. under n _ (λ _. under w _ (λ d. under x _ (λ e. under (startable d e) _ (λ _. under k _ (λ path. under (takeable d path) _
+      (λ _. under j _ (λ h. under s _ (λ _. under b _ (λ looks. under (with_text h (is_some looks) looks) _ (λ _. under l _ (λ told. under (with_text h told told) _ (λ _. refl))))))))))))))
 
 module _ (xs : List Argument) where
   abbrev unroll : Option ℕ
@@ -197,28 +203,32 @@ module _ (xs : List Argument) where
   abbrev leaks : Option Bool
   leaks = flag_in xs Leaks
 
+  abbrev real : Option Bool
+  real = flag_in xs Real
+
   abbrev files : Option (List Text)
   files = some_files (files_of xs)
 
   no_number : (o : NumberName) → number_in xs o ≡ None → command_by xs ≡ None
-  no_number Unroll e = ap (λ u. command_from u paths nodes workers exec kept json stats bits leaks files) e
-  no_number Paths e = ap (λ p. command_from unroll p nodes workers exec kept json stats bits leaks files) e ∙ no_paths unroll paths nodes workers exec kept json stats bits leaks files
-  no_number Nodes e = ap (λ n. command_from unroll paths n workers exec kept json stats bits leaks files) e ∙ no_nodes unroll paths nodes workers exec kept json stats bits leaks files
-  no_number Workers e = ap (λ w. command_from unroll paths nodes w exec kept json stats bits leaks files) e ∙ no_workers unroll paths nodes workers exec kept json stats bits leaks files
+  no_number Unroll e = ap (λ u. command_from u paths nodes workers exec kept json stats bits leaks real files) e
+  no_number Paths e = ap (λ p. command_from unroll p nodes workers exec kept json stats bits leaks real files) e ∙ no_paths unroll paths nodes workers exec kept json stats bits leaks real files
+  no_number Nodes e = ap (λ n. command_from unroll paths n workers exec kept json stats bits leaks real files) e ∙ no_nodes unroll paths nodes workers exec kept json stats bits leaks real files
+  no_number Workers e = ap (λ w. command_from unroll paths nodes w exec kept json stats bits leaks real files) e ∙ no_workers unroll paths nodes workers exec kept json stats bits leaks real files
 
   no_exec_in : exec_in xs ≡ None → command_by xs ≡ None
-  no_exec_in e = ap (λ x. command_from unroll paths nodes workers x kept json stats bits leaks files) e ∙ no_exec unroll paths nodes workers exec kept json stats bits leaks files
+  no_exec_in e = ap (λ x. command_from unroll paths nodes workers x kept json stats bits leaks real files) e ∙ no_exec unroll paths nodes workers exec kept json stats bits leaks real files
 
   no_kept_in : kept_in xs ≡ None → command_by xs ≡ None
-  no_kept_in e = ap (λ k. command_from unroll paths nodes workers exec k json stats bits leaks files) e ∙ no_kept unroll paths nodes workers exec kept json stats bits leaks files
+  no_kept_in e = ap (λ k. command_from unroll paths nodes workers exec k json stats bits leaks real files) e ∙ no_kept unroll paths nodes workers exec kept json stats bits leaks real files
 
   no_bits_in : bits_in xs ≡ None → command_by xs ≡ None
-  no_bits_in e = ap (λ b. command_from unroll paths nodes workers exec kept json stats b leaks files) e ∙ no_bits unroll paths nodes workers exec kept json stats bits leaks files
+  no_bits_in e = ap (λ b. command_from unroll paths nodes workers exec kept json stats b leaks real files) e ∙ no_bits unroll paths nodes workers exec kept json stats bits leaks real files
 
   no_flag_in : (f : FlagName) → flag_in xs f ≡ None → command_by xs ≡ None
-  no_flag_in Json e = ap (λ j. command_from unroll paths nodes workers exec kept j stats bits leaks files) e ∙ no_json unroll paths nodes workers exec kept json stats bits leaks files
-  no_flag_in Stats e = ap (λ s. command_from unroll paths nodes workers exec kept json s bits leaks files) e ∙ no_stats unroll paths nodes workers exec kept json stats bits leaks files
-  no_flag_in Leaks e = ap (λ l. command_from unroll paths nodes workers exec kept json stats bits l files) e ∙ no_leaks unroll paths nodes workers exec kept json stats bits leaks files
+  no_flag_in Json e = ap (λ j. command_from unroll paths nodes workers exec kept j stats bits leaks real files) e ∙ no_json unroll paths nodes workers exec kept json stats bits leaks real files
+  no_flag_in Stats e = ap (λ s. command_from unroll paths nodes workers exec kept json s bits leaks real files) e ∙ no_stats unroll paths nodes workers exec kept json stats bits leaks real files
+  no_flag_in Leaks e = ap (λ l. command_from unroll paths nodes workers exec kept json stats bits l real files) e ∙ no_leaks unroll paths nodes workers exec kept json stats bits leaks real files
+  no_flag_in Real e = ap (λ r. command_from unroll paths nodes workers exec kept json stats bits leaks r files) e ∙ no_real unroll paths nodes workers exec kept json stats bits leaks real files
 
   no_command : (c : Called) → 2 ≤ length (given (name_of c) xs) → command_by xs ≡ None
   no_command (an_option (Number o)) h = no_number o (number_twice o (values_of (Number o) xs) (subst (λ vs. 2 ≤ length vs) (values_are (Number o) xs) h))
@@ -254,10 +264,10 @@ one_kept (v ∷ []) h = refl
 one_kept (v ∷ w ∷ vs) h = absurd (omega arith)
 
 -- the help of workers and the looks at bits, made before the files or with them
-module _ (limits : LimitNumbers) (j s : Bool) (b : Option (Option ℕ)) (l : Bool) (f : Option (List Text)) where
+module _ (limits : LimitNumbers) (j s : Bool) (b : Option (Option ℕ)) (l r : Bool) (f : Option (List Text)) where
   abbrev asked_with : ℕ → Option Text → Option Text → Option ℕ → Option Command
   asked_with workers exec kept bits =
-      with_text j l l >>= λ leaks. f >>= λ files. Some (record { limits = limits; workers = workers; exec = exec; kept = kept; json = j; stats = s; bits = bits; leaks = leaks; files = files })
+      with_text j l l >>= λ leaks. without_leaks leaks r >>= λ real. f >>= λ files. Some (record { limits = limits; workers = workers; exec = exec; kept = kept; json = j; stats = s; bits = bits; leaks = leaks; real = real; files = files })
 
   abbrev asked : ℕ → Option Text → Option Text → Option Command
   asked workers exec kept = b >>= λ looks. with_text j (is_some looks) looks >>= asked_with workers exec kept
@@ -285,29 +295,29 @@ module _ (limits : LimitNumbers) (j s : Bool) (b : Option (Option ℕ)) (l : Boo
       go (Some exec) (Some kept) = looks_first b exec kept
 
 -- the numbers in their ranges, one by one or all at the end
-by_numbers : (u p n w : Option ℕ) (x : Option (Option Text)) (k : Option Text) (j s : Bool) (b : Option (Option ℕ)) (l : Bool) (f : Option (List Text))
+by_numbers : (u p n w : Option ℕ) (x : Option (Option Text)) (k : Option Text) (j s : Bool) (b : Option (Option ℕ)) (l r : Bool) (f : Option (List Text))
     → ((u >>= λ unroll. p >>= λ paths. n >>= λ nodes. limits_within unroll paths nodes)
     >>= λ limits. ((w >>= in_range Workers) >>= λ workers. x >>= λ program. startable workers program >>= λ exec. takeable workers k >>= λ kept. Some (record { workers = workers; exec = exec; kept = kept }))
-    >>= λ (help : HelpFound). (b >>= λ looks. with_text j (is_some looks) looks) >>= λ bits. with_text j l l >>= λ leaks. f >>= λ files.
-    Some (record { limits = limits; workers = help.workers; exec = help.exec; kept = help.kept; json = j; stats = s; bits = bits; leaks = leaks; files = files }))
-    ≡ command_from (u >>= in_range Unroll) (p >>= in_range Paths) (n >>= in_range Nodes) (w >>= in_range Workers) x (Some k) (Some j) (Some s) b (Some l) f
-by_numbers None p n w x k j s b l f = refl
-by_numbers (Some u) None n w x k j s b l f = sym (no_paths (in_range Unroll u) None (n >>= in_range Nodes) (w >>= in_range Workers) x (Some k) (Some j) (Some s) b (Some l) f)
-by_numbers (Some u) (Some p) None w x k j s b l f = sym (no_nodes (in_range Unroll u) (in_range Paths p) None (w >>= in_range Workers) x (Some k) (Some j) (Some s) b (Some l) f)
-by_numbers (Some u) (Some p) (Some n) w x k j s b l f = go (in_range Unroll u) (in_range Paths p) (in_range Nodes n)
+    >>= λ (help : HelpFound). (b >>= λ looks. with_text j (is_some looks) looks) >>= λ bits. with_text j l l >>= λ leaks. without_leaks leaks r >>= λ real. f >>= λ files.
+    Some (record { limits = limits; workers = help.workers; exec = help.exec; kept = help.kept; json = j; stats = s; bits = bits; leaks = leaks; real = real; files = files }))
+    ≡ command_from (u >>= in_range Unroll) (p >>= in_range Paths) (n >>= in_range Nodes) (w >>= in_range Workers) x (Some k) (Some j) (Some s) b (Some l) (Some r) f
+by_numbers None p n w x k j s b l r f = refl
+by_numbers (Some u) None n w x k j s b l r f = sym (no_paths (in_range Unroll u) None (n >>= in_range Nodes) (w >>= in_range Workers) x (Some k) (Some j) (Some s) b (Some l) (Some r) f)
+by_numbers (Some u) (Some p) None w x k j s b l r f = sym (no_nodes (in_range Unroll u) (in_range Paths p) None (w >>= in_range Workers) x (Some k) (Some j) (Some s) b (Some l) (Some r) f)
+by_numbers (Some u) (Some p) (Some n) w x k j s b l r f = go (in_range Unroll u) (in_range Paths p) (in_range Nodes n)
   where
     help : Option HelpFound
     help = (w >>= in_range Workers) >>= λ workers. x >>= λ program. startable workers program >>= λ exec. takeable workers k >>= λ kept. Some (record { workers = workers; exec = exec; kept = kept })
 
     go : (a c d : Option ℕ)
         → ((a >>= λ unroll. c >>= λ paths. d >>= λ nodes. Some (record { unroll = unroll; paths = paths; nodes = nodes }))
-        >>= λ limits. help >>= λ (h : HelpFound). (b >>= λ looks. with_text j (is_some looks) looks) >>= λ bits. with_text j l l >>= λ leaks. f >>= λ files.
-        Some (record { limits = limits; workers = h.workers; exec = h.exec; kept = h.kept; json = j; stats = s; bits = bits; leaks = leaks; files = files }))
-        ≡ command_from a c d (w >>= in_range Workers) x (Some k) (Some j) (Some s) b (Some l) f
+        >>= λ limits. help >>= λ (h : HelpFound). (b >>= λ looks. with_text j (is_some looks) looks) >>= λ bits. with_text j l l >>= λ leaks. without_leaks leaks r >>= λ real. f >>= λ files.
+        Some (record { limits = limits; workers = h.workers; exec = h.exec; kept = h.kept; json = j; stats = s; bits = bits; leaks = leaks; real = real; files = files }))
+        ≡ command_from a c d (w >>= in_range Workers) x (Some k) (Some j) (Some s) b (Some l) (Some r) f
     go None c d = refl
     go (Some a) None d = refl
     go (Some a) (Some c) None = refl
-    go (Some a) (Some c) (Some d) = by_help (record { unroll = a; paths = c; nodes = d }) j s b l f (w >>= in_range Workers) x k
+    go (Some a) (Some c) (Some d) = by_help (record { unroll = a; paths = c; nodes = d }) j s b l r f (w >>= in_range Workers) x k
 
 any_files : (vs : List Text) → unwrap_or (if_any vs) [] ≡ vs
 any_files [] = refl
@@ -317,7 +327,7 @@ module _ (xs : List Argument) (rows : List Row) (seen : Seen xs rows) (once : At
   first_is : (o : OptionName) → first_of (option_name o) (with_flags rows) ≡ option_and_then (λ ws. slice_get ws 0) (if_any (values_of o xs))
   first_is o =
       first_here (option_name o) (with_flags rows)
-      ∙ ap (λ vs. option_and_then (λ ws. slice_get ws 0) vs) (others_stay (option_name o) rows (no_flag Json o) (no_flag Stats o) (no_flag Leaks o) ∙ seen (option_name o) ∙ ap if_any (values_are o xs))
+      ∙ ap (λ vs. option_and_then (λ ws. slice_get ws 0) vs) (others_stay (option_name o) rows (no_flag Json o) (no_flag Stats o) (no_flag Leaks o) (no_flag Real o) ∙ seen (option_name o) ∙ ap if_any (values_are o xs))
 
   few_values : (o : OptionName) → length (values_of o xs) ≤ 1
   few_values o = subst (λ vs. length vs ≤ 1) (values_are o xs) (once (an_option o))
@@ -347,7 +357,7 @@ module _ (xs : List Argument) (rows : List Row) (seen : Seen xs rows) (once : At
       go (g ∷ h ∷ fs) few = absurd (omega arith)
 
   files_found_are : files_found (with_flags rows) ≡ files_of xs
-  files_found_are = ap (λ fs. unwrap_or fs []) (others_stay (codes "file") rows refl refl refl ∙ seen (codes "file") ∙ ap if_any (files_are xs)) ∙ any_files (files_of xs)
+  files_found_are = ap (λ fs. unwrap_or fs []) (others_stay (codes "file") rows refl refl refl refl ∙ seen (codes "file") ∙ ap if_any (files_are xs)) ∙ any_files (files_of xs)
 
   command_is : command_found (with_flags rows) ≡ command_by xs
   command_is =
@@ -362,18 +372,20 @@ module _ (xs : List Argument) (rows : List Row) (seen : Seen xs rows) (once : At
       let s = Some (flag_found Stats all) in
       let b = bits_or_none (first_of (option_name Bits) all) in
       let l = Some (flag_found Leaks all) in
-      by_numbers (number_found Unroll all) (number_found Paths all) (number_found Nodes all) (number_found Workers all) x (first_of (option_name Kept) all) (flag_found Json all) (flag_found Stats all) b (flag_found Leaks all) (some_files (files_found all))
-      ∙ ap (λ z. command_from z p n w x k j s b l (some_files (files_found all))) (number_is Unroll)
-      ∙ ap (λ z. command_from (number_in xs Unroll) z n w x k j s b l (some_files (files_found all))) (number_is Paths)
-      ∙ ap (λ z. command_from (number_in xs Unroll) (number_in xs Paths) z w x k j s b l (some_files (files_found all))) (number_is Nodes)
-      ∙ ap (λ z. command_from (number_in xs Unroll) (number_in xs Paths) (number_in xs Nodes) z x k j s b l (some_files (files_found all))) (number_is Workers)
-      ∙ ap (λ z. command_from (number_in xs Unroll) (number_in xs Paths) (number_in xs Nodes) (number_in xs Workers) z k j s b l (some_files (files_found all))) exec_is
-      ∙ ap (λ z. command_from (number_in xs Unroll) (number_in xs Paths) (number_in xs Nodes) (number_in xs Workers) (exec_in xs) z j s b l (some_files (files_found all))) kept_is
-      ∙ ap (λ z. command_from (number_in xs Unroll) (number_in xs Paths) (number_in xs Nodes) (number_in xs Workers) (exec_in xs) (kept_in xs) z s b l (some_files (files_found all))) (flag_is Json)
-      ∙ ap (λ z. command_from (number_in xs Unroll) (number_in xs Paths) (number_in xs Nodes) (number_in xs Workers) (exec_in xs) (kept_in xs) (flag_in xs Json) z b l (some_files (files_found all))) (flag_is Stats)
-      ∙ ap (λ z. command_from (number_in xs Unroll) (number_in xs Paths) (number_in xs Nodes) (number_in xs Workers) (exec_in xs) (kept_in xs) (flag_in xs Json) (flag_in xs Stats) z l (some_files (files_found all))) bits_is
-      ∙ ap (λ z. command_from (number_in xs Unroll) (number_in xs Paths) (number_in xs Nodes) (number_in xs Workers) (exec_in xs) (kept_in xs) (flag_in xs Json) (flag_in xs Stats) (bits_in xs) z (some_files (files_found all))) (flag_is Leaks)
-      ∙ ap (λ fs. command_from (number_in xs Unroll) (number_in xs Paths) (number_in xs Nodes) (number_in xs Workers) (exec_in xs) (kept_in xs) (flag_in xs Json) (flag_in xs Stats) (bits_in xs) (flag_in xs Leaks) (some_files fs)) files_found_are
+      let r = Some (flag_found Real all) in
+      by_numbers (number_found Unroll all) (number_found Paths all) (number_found Nodes all) (number_found Workers all) x (first_of (option_name Kept) all) (flag_found Json all) (flag_found Stats all) b (flag_found Leaks all) (flag_found Real all) (some_files (files_found all))
+      ∙ ap (λ z. command_from z p n w x k j s b l r (some_files (files_found all))) (number_is Unroll)
+      ∙ ap (λ z. command_from (number_in xs Unroll) z n w x k j s b l r (some_files (files_found all))) (number_is Paths)
+      ∙ ap (λ z. command_from (number_in xs Unroll) (number_in xs Paths) z w x k j s b l r (some_files (files_found all))) (number_is Nodes)
+      ∙ ap (λ z. command_from (number_in xs Unroll) (number_in xs Paths) (number_in xs Nodes) z x k j s b l r (some_files (files_found all))) (number_is Workers)
+      ∙ ap (λ z. command_from (number_in xs Unroll) (number_in xs Paths) (number_in xs Nodes) (number_in xs Workers) z k j s b l r (some_files (files_found all))) exec_is
+      ∙ ap (λ z. command_from (number_in xs Unroll) (number_in xs Paths) (number_in xs Nodes) (number_in xs Workers) (exec_in xs) z j s b l r (some_files (files_found all))) kept_is
+      ∙ ap (λ z. command_from (number_in xs Unroll) (number_in xs Paths) (number_in xs Nodes) (number_in xs Workers) (exec_in xs) (kept_in xs) z s b l r (some_files (files_found all))) (flag_is Json)
+      ∙ ap (λ z. command_from (number_in xs Unroll) (number_in xs Paths) (number_in xs Nodes) (number_in xs Workers) (exec_in xs) (kept_in xs) (flag_in xs Json) z b l r (some_files (files_found all))) (flag_is Stats)
+      ∙ ap (λ z. command_from (number_in xs Unroll) (number_in xs Paths) (number_in xs Nodes) (number_in xs Workers) (exec_in xs) (kept_in xs) (flag_in xs Json) (flag_in xs Stats) z l r (some_files (files_found all))) bits_is
+      ∙ ap (λ z. command_from (number_in xs Unroll) (number_in xs Paths) (number_in xs Nodes) (number_in xs Workers) (exec_in xs) (kept_in xs) (flag_in xs Json) (flag_in xs Stats) (bits_in xs) z r (some_files (files_found all))) (flag_is Leaks)
+      ∙ ap (λ z. command_from (number_in xs Unroll) (number_in xs Paths) (number_in xs Nodes) (number_in xs Workers) (exec_in xs) (kept_in xs) (flag_in xs Json) (flag_in xs Stats) (bits_in xs) (flag_in xs Leaks) z (some_files (files_found all))) (flag_is Real)
+      ∙ ap (λ fs. command_from (number_in xs Unroll) (number_in xs Paths) (number_in xs Nodes) (number_in xs Workers) (exec_in xs) (kept_in xs) (flag_in xs Json) (flag_in xs Stats) (bits_in xs) (flag_in xs Leaks) (flag_in xs Real) (some_files fs)) files_found_are
 
   lacks_is : (o : OptionName) → lacks o (with_flags rows) ≡ none_in (values_of o xs)
   lacks_is o = ap (λ (v : Option Text). not (is_some v)) (first_is o) ∙ none_first (values_of o xs)
@@ -392,7 +404,7 @@ module _ (xs : List Argument) (rows : List Row) (seen : Seen xs rows) (once : At
 
   bare_is : bare_found (with_flags rows) ≡ is_bare xs
   bare_is =
-      ap₂ ◌&&◌ (ap₂ ◌&&◌ (ap₂ ◌&&◌ (ap₂ ◌&&◌ (lacks_is (Number Workers)) (lacks_is Exec)) (lacks_is Bits)) (lacks_is Kept)) (ap₂ ◌&&◌ (ap₂ ◌&&◌ (unused_is Json) (unused_is Stats)) (unused_is Leaks))
+      ap₂ ◌&&◌ (ap₂ ◌&&◌ (ap₂ ◌&&◌ (ap₂ ◌&&◌ (lacks_is (Number Workers)) (lacks_is Exec)) (lacks_is Bits)) (lacks_is Kept)) (ap₂ ◌&&◌ (ap₂ ◌&&◌ (ap₂ ◌&&◌ (unused_is Json) (unused_is Stats)) (unused_is Leaks)) (unused_is Real))
 
   keep_is : keep_found (with_flags rows) ≡ keep_by xs
   keep_is = ap₂ (λ (b : Bool) (o : Option Command). cond b o None) bare_is command_is

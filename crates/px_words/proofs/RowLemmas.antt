@@ -10,7 +10,7 @@ use Rattle.clap.specs.declared.builder.value_parser.Reading.{Reading}
 use Rattle.clap.specs.declared.parser.matches.ValueSource.{ValueSource}
 use Rattle.clap.specs.declared.parser.matches.ValueSource.TheVariants.{CommandLine, DefaultValue}
 use Rattle.px_words.specs.declared.flag_name.FlagName.{FlagName}
-use Rattle.px_words.specs.declared.flag_name.FlagName.TheVariants.{Json, Stats, Leaks}
+use Rattle.px_words.specs.declared.flag_name.FlagName.TheVariants.{Json, Stats, Leaks, Real}
 use Rattle.px_words.specs.declared.option_name.OptionName.{OptionName}
 use Rattle.px_words.specs.declared.option_name.OptionName.TheVariants.{Number, Exec, Bits, Kept}
 use Rattle.px_words.specs.declared.option_name.NumberName.TheVariants.{Unroll, Paths, Nodes, Workers}
@@ -121,6 +121,7 @@ applied_is (option p v) rows e = ap (with_values (option_name p) (reading_by (op
 applied_is (flag Json) rows e = ap (with_values (flag_name Json) (reading_by (flag_built Json)) CommandLine (codes "true" ∷ [])) (left_alone (flag_name Json) rows (not-true _ e))
 applied_is (flag Stats) rows e = ap (with_values (flag_name Stats) (reading_by (flag_built Stats)) CommandLine (codes "true" ∷ [])) (left_alone (flag_name Stats) rows (not-true _ e))
 applied_is (flag Leaks) rows e = ap (with_values (flag_name Leaks) (reading_by (flag_built Leaks)) CommandLine (codes "true" ∷ [])) (left_alone (flag_name Leaks) rows (not-true _ e))
+applied_is (flag Real) rows e = ap (with_values (flag_name Real) (reading_by (flag_built Real)) CommandLine (codes "true" ∷ [])) (left_alone (flag_name Real) rows (not-true _ e))
 applied_is (file v) rows e = refl
 
 module _ (before : List Argument) (rows : List Row) (seen : Seen before rows) (x : Argument) (e : suits x rows ≡ true) where
@@ -150,6 +151,7 @@ file_not (an_option Kept) = refl
 file_not (a_flag Json) = refl
 file_not (a_flag Stats) = refl
 file_not (a_flag Leaks) = refl
+file_not (a_flag Real) = refl
 
 not_file : (c : Called) → bytes_eq (name_of c) (codes "file") ≡ false
 not_file (an_option (Number Unroll)) = refl
@@ -162,6 +164,7 @@ not_file (an_option Kept) = refl
 not_file (a_flag Json) = refl
 not_file (a_flag Stats) = refl
 not_file (a_flag Leaks) = refl
+not_file (a_flag Real) = refl
 
 pub no_flag : (f : FlagName) (o : OptionName) → bytes_eq (flag_name f) (option_name o) ≡ false
 no_flag Json (Number Unroll) = refl
@@ -185,29 +188,43 @@ no_flag Leaks (Number Workers) = refl
 no_flag Leaks Exec = refl
 no_flag Leaks Bits = refl
 no_flag Leaks Kept = refl
+no_flag Real (Number Unroll) = refl
+no_flag Real (Number Paths) = refl
+no_flag Real (Number Nodes) = refl
+no_flag Real (Number Workers) = refl
+no_flag Real Exec = refl
+no_flag Real Bits = refl
+no_flag Real Kept = refl
 
 no_option : (o : OptionName) (f : FlagName) → bytes_eq (option_name o) (flag_name f) ≡ false
 no_option (Number Unroll) Json = refl
 no_option (Number Unroll) Stats = refl
 no_option (Number Unroll) Leaks = refl
+no_option (Number Unroll) Real = refl
 no_option (Number Paths) Json = refl
 no_option (Number Paths) Stats = refl
 no_option (Number Paths) Leaks = refl
+no_option (Number Paths) Real = refl
 no_option (Number Nodes) Json = refl
 no_option (Number Nodes) Stats = refl
 no_option (Number Nodes) Leaks = refl
+no_option (Number Nodes) Real = refl
 no_option (Number Workers) Json = refl
 no_option (Number Workers) Stats = refl
 no_option (Number Workers) Leaks = refl
+no_option (Number Workers) Real = refl
 no_option Exec Json = refl
 no_option Exec Stats = refl
 no_option Exec Leaks = refl
+no_option Exec Real = refl
 no_option Bits Json = refl
 no_option Bits Stats = refl
 no_option Bits Leaks = refl
+no_option Bits Real = refl
 no_option Kept Json = refl
 no_option Kept Stats = refl
 no_option Kept Leaks = refl
+no_option Kept Real = refl
 
 -- the next argument has another id
 passed : (b : Bool) (v : Text) (vs : List Text) → b ≡ false → cond b (v ∷ vs) vs ≡ vs
@@ -264,16 +281,28 @@ module _ (f : FlagName) where
           ap (all_of (flag_name f)) (here false (row_here (flag_name f) rows ∙ ap (λ o. is_some o) is))
           ∙ joined DefaultValue (flag_name f) (reading_by (flag_built f)) (codes "false" ∷ []) rows (same_text (flag_name f)) ∙ ap (λ o. Some (unwrap_or o [] ++ codes "false" ∷ [])) is
 
-pub others_stay : (id : Text) (rows : List Row) → bytes_eq (flag_name Json) id ≡ false → bytes_eq (flag_name Stats) id ≡ false → bytes_eq (flag_name Leaks) id ≡ false →
+-- the flags before the last, and before the one before it
+abbrev with_two : List Row → List Row
+with_two rows = with_one Stats (with_one Json rows)
+
+abbrev with_three : List Row → List Row
+with_three rows = with_one Leaks (with_two rows)
+
+pub others_stay : (id : Text) (rows : List Row) → bytes_eq (flag_name Json) id ≡ false → bytes_eq (flag_name Stats) id ≡ false → bytes_eq (flag_name Leaks) id ≡ false → bytes_eq (flag_name Real) id ≡ false →
     all_of id (with_flags rows) ≡ all_of id rows
-others_stay id rows json stats leaks =
-    one_stays Leaks id (with_one Stats (with_one Json rows)) leaks ∙ one_stays Stats id (with_one Json rows) stats ∙ one_stays Json id rows json
+others_stay id rows json stats leaks real =
+    one_stays Real id (with_three rows) real ∙ one_stays Leaks id (with_two rows) leaks ∙ one_stays Stats id (with_one Json rows) stats ∙ one_stays Json id rows json
 
 pub flag_has : (f : FlagName) (rows : List Row) → all_of (flag_name f) (with_flags rows) ≡ Some (unwrap_or (all_of (flag_name f) rows) (codes "false" ∷ []))
-flag_has Json rows = one_stays Leaks (flag_name Json) (with_one Stats (with_one Json rows)) refl ∙ one_stays Stats (flag_name Json) (with_one Json rows) refl ∙ one_has Json rows
+flag_has Json rows =
+    one_stays Real (flag_name Json) (with_three rows) refl ∙ one_stays Leaks (flag_name Json) (with_two rows) refl ∙ one_stays Stats (flag_name Json) (with_one Json rows) refl ∙ one_has Json rows
 flag_has Stats rows =
-    one_stays Leaks (flag_name Stats) (with_one Stats (with_one Json rows)) refl ∙ one_has Stats (with_one Json rows)
+    one_stays Real (flag_name Stats) (with_three rows) refl ∙ one_stays Leaks (flag_name Stats) (with_two rows) refl ∙ one_has Stats (with_one Json rows)
     ∙ ap (λ vs. Some (unwrap_or vs (codes "false" ∷ []))) (one_stays Json (flag_name Stats) rows refl)
 flag_has Leaks rows =
-    one_has Leaks (with_one Stats (with_one Json rows))
+    one_stays Real (flag_name Leaks) (with_three rows) refl ∙ one_has Leaks (with_two rows)
     ∙ ap (λ vs. Some (unwrap_or vs (codes "false" ∷ []))) (one_stays Stats (flag_name Leaks) (with_one Json rows) refl ∙ one_stays Json (flag_name Leaks) rows refl)
+flag_has Real rows =
+    one_has Real (with_three rows)
+    ∙ ap (λ vs. Some (unwrap_or vs (codes "false" ∷ [])))
+    (one_stays Leaks (flag_name Real) (with_two rows) refl ∙ one_stays Stats (flag_name Real) (with_one Json rows) refl ∙ one_stays Json (flag_name Real) rows refl)

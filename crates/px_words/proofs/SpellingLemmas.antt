@@ -6,7 +6,7 @@ use Rattle.std.proofs.lemmas.Slice.Eq.{bytes_eq-Decides}
 use Rattle.std.specs.List.{list_any, find, before_first, after_first}
 use Rattle.std.specs.Str.{bytes_eq}
 use Rattle.px_words.specs.declared.flag_name.FlagName.{FlagName}
-use Rattle.px_words.specs.declared.flag_name.FlagName.TheVariants.{Json, Stats, Leaks}
+use Rattle.px_words.specs.declared.flag_name.FlagName.TheVariants.{Json, Stats, Leaks, Real}
 use Rattle.px_words.specs.declared.option_name.OptionName.{OptionName}
 use Rattle.px_words.specs.declared.option_name.OptionName.TheVariants.{Number, Exec, Bits, Kept}
 use Rattle.px_words.specs.declared.option_name.NumberName.TheVariants.{Unroll, Paths, Nodes, Workers}
@@ -41,11 +41,13 @@ raised_is : (f : FlagName) → word_of (codes "--" ++ flag_name f) ≡ A.raised 
 raised_is Json = refl
 raised_is Stats = refl
 raised_is Leaks = refl
+raised_is Real = refl
 
 flag_goes_on : (f : FlagName) → is_double_dash (codes "--" ++ flag_name f) ≡ false
 flag_goes_on Json = refl
 flag_goes_on Stats = refl
 flag_goes_on Leaks = refl
+flag_goes_on Real = refl
 
 name_goes_on : (o : OptionName) → is_double_dash (long_name o) ≡ false
 name_goes_on (Number Unroll) = refl

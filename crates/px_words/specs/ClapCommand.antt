@@ -7,7 +7,7 @@ use Rattle.clap.specs.Simple.{new_shape}
 use Rattle.clap.specs.Words.{App, Rule, Row, Text, new_rule, with_rule, first_of, all_of}
 use Rattle.clap.specs.declared.builder.ArgAction.TheVariants.{Set, SetTrue, Append}
 use Rattle.px_words.specs.declared.flag_name.FlagName.{FlagName}
-use Rattle.px_words.specs.declared.flag_name.FlagName.TheVariants.{Json, Stats, Leaks}
+use Rattle.px_words.specs.declared.flag_name.FlagName.TheVariants.{Json, Stats, Leaks, Real}
 use Rattle.px_words.specs.declared.option_name.OptionName.{OptionName}
 use Rattle.px_words.specs.declared.option_name.OptionName.TheVariants.{Number, Exec, Bits, Kept}
 use Rattle.px_words.specs.declared.option_name.NumberName.{NumberName}
@@ -15,7 +15,7 @@ use Rattle.px_words.specs.declared.option_name.NumberName.TheVariants.{Unroll, P
 use Rattle.px_words.specs.declared.reading.Help.{Help}
 use Rattle.px_base.specs.LimitNumbers.{LimitNumbers}
 use Rattle.px_words.specs.OptionTable.{number_name, option_name, flag_name, default_of}
-use Rattle.px_words.specs.Meaning.{Command, number_written, in_range, exec_written, bits_written, startable, takeable, with_text, some_files, ◌>>=◌}
+use Rattle.px_words.specs.Meaning.{Command, number_written, in_range, exec_written, bits_written, startable, takeable, with_text, without_leaks, some_files, ◌>>=◌}
 
 -- an option, whose name is its long name
 abbrev pub option_rule : OptionName → Rule
@@ -35,8 +35,8 @@ bare_app = record { top = record (new_shape (codes "command")) { no_binary_name 
 
 abbrev pub words_app : App
 words_app =
-    with_rule (with_rule (with_rule (with_rule (with_rule (with_rule (with_rule (with_rule (with_rule (with_rule (with_rule bare_app
-    (option_rule (Number Unroll))) (option_rule (Number Paths))) (option_rule (Number Nodes))) (option_rule (Number Workers))) (option_rule Exec)) (option_rule Bits)) (option_rule Kept)) (flag_rule Json)) (flag_rule Stats)) (flag_rule Leaks)) file_rule
+    with_rule (with_rule (with_rule (with_rule (with_rule (with_rule (with_rule (with_rule (with_rule (with_rule (with_rule (with_rule bare_app
+    (option_rule (Number Unroll))) (option_rule (Number Paths))) (option_rule (Number Nodes))) (option_rule (Number Workers))) (option_rule Exec)) (option_rule Bits)) (option_rule Kept)) (flag_rule Json)) (flag_rule Stats)) (flag_rule Leaks)) (flag_rule Real)) file_rule
 
 abbrev pub number_or : ℕ → Option Text → Option ℕ
 number_or n None = Some n
@@ -101,13 +101,17 @@ bits_found rows = bits_given rows >>= λ looks. with_text (flag_found Json rows)
 abbrev pub leaks_found : List Row → Option Bool
 leaks_found rows = with_text (flag_found Json rows) (flag_found Leaks rows) (flag_found Leaks rows)
 
+abbrev pub real_found : Bool → List Row → Option Bool
+real_found leaks rows = without_leaks leaks (flag_found Real rows)
+
 abbrev pub files_found : List Row → List Text
 files_found rows = unwrap_or (all_of (codes "file") rows) []
 
 abbrev pub command_found : List Row → Option Command
 command_found rows =
-    limits_found rows >>= λ limits. help_found rows >>= λ help. bits_found rows >>= λ bits. leaks_found rows >>= λ leaks. some_files (files_found rows) >>= λ files.
-    Some (record { limits = limits; workers = help.workers; exec = help.exec; kept = help.kept; json = flag_found Json rows; stats = flag_found Stats rows; bits = bits; leaks = leaks; files = files })
+    limits_found rows >>= λ limits. help_found rows >>= λ help. bits_found rows >>= λ bits. leaks_found rows >>= λ leaks. real_found leaks rows >>= λ real.
+    some_files (files_found rows) >>= λ files.
+    Some (record { limits = limits; workers = help.workers; exec = help.exec; kept = help.kept; json = flag_found Json rows; stats = flag_found Stats rows; bits = bits; leaks = leaks; real = real; files = files })
 
 -- an option isn't found
 abbrev pub lacks : OptionName → List Row → Bool
@@ -117,7 +121,7 @@ lacks o rows = not (is_some (first_of (option_name o) rows))
 abbrev pub bare_found : List Row → Bool
 bare_found rows =
     (((lacks (Number Workers) rows && lacks Exec rows) && lacks Bits rows) && lacks Kept rows)
-    && ((not (flag_found Json rows) && not (flag_found Stats rows)) && not (flag_found Leaks rows))
+    && (((not (flag_found Json rows) && not (flag_found Stats rows)) && not (flag_found Leaks rows)) && not (flag_found Real rows))
 
 abbrev pub keep_found : List Row → Option Command
 keep_found rows = if bare_found rows then command_found rows else None

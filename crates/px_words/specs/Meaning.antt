@@ -6,7 +6,7 @@ use Rattle.std.specs.Str.{bytes_eq}
 use Rattle.std.specs.Str.Parse.{digits_value}
 use Rattle.px_base.specs.LimitNumbers.{LimitNumbers}
 use Rattle.px_words.specs.declared.flag_name.FlagName.{FlagName}
-use Rattle.px_words.specs.declared.flag_name.FlagName.TheVariants.{Json, Stats, Leaks}
+use Rattle.px_words.specs.declared.flag_name.FlagName.TheVariants.{Json, Stats, Leaks, Real}
 use Rattle.px_words.specs.declared.option_name.OptionName.{OptionName}
 use Rattle.px_words.specs.declared.option_name.OptionName.TheVariants.{Number, Exec, Bits, Kept}
 use Rattle.px_words.specs.declared.option_name.NumberName.{NumberName}
@@ -18,8 +18,8 @@ use Rattle.px_base.specs.Texts.{Text}
 use Rattle.px_words.specs.Arguments.{Argument, option, flag, file, arguments_of}
 
 -- What a command asks for: the report on files within limits, with the help of workers that run a program, or of the summaries that a
--- file keeps, as JSON or as text, and whether the events are counted; how many clauses a look at bits may learn, if there are looks, and
--- whether leaks are told.
+-- file keeps, as JSON or as text, and whether the events are counted; how many clauses a look at bits may learn, if there are looks,
+-- whether leaks are told, and whether the files are read as preprocessed C.
 pub record Command : Type 0 where
   pub limits : LimitNumbers
   pub workers : ℕ
@@ -29,6 +29,7 @@ pub record Command : Type 0 where
   pub stats : Bool
   pub bits : Option ℕ
   pub leaks : Bool
+  pub real : Bool
   pub files : List Text
 
 infixl 10 ◌>>=◌
@@ -123,6 +124,10 @@ flag_by (f ∷ again ∷ uses) = None
 abbrev pub with_text : {A : Type 0} → Bool → Bool → A → Option A
 with_text json is_asked asked = if json && is_asked then None else Some asked
 
+-- nothing is told of leaks where files are read as preprocessed C
+abbrev pub without_leaks : Bool → Bool → Option Bool
+without_leaks leaks asked = if leaks && asked then None else Some asked
+
 abbrev pub files_of : List Argument → List Text
 files_of [] = []
 files_of (option o value ∷ arguments) = files_of arguments
@@ -155,8 +160,9 @@ command_by arguments =
     kept_in arguments >>= λ path. takeable workers path >>= λ kept.
     flag_in arguments Json >>= λ json. flag_in arguments Stats >>= λ stats.
     bits_in arguments >>= λ looks. with_text json (is_some looks) looks >>= λ bits.
-    flag_in arguments Leaks >>= λ told. with_text json told told >>= λ leaks. some_files (files_of arguments) >>= λ files.
-    Some (record { limits = record { unroll = unroll; paths = paths; nodes = nodes }; workers = workers; exec = exec; kept = kept; json = json; stats = stats; bits = bits; leaks = leaks; files = files })
+    flag_in arguments Leaks >>= λ told. with_text json told told >>= λ leaks.
+    flag_in arguments Real >>= λ asked. without_leaks leaks asked >>= λ real. some_files (files_of arguments) >>= λ files.
+    Some (record { limits = record { unroll = unroll; paths = paths; nodes = nodes }; workers = workers; exec = exec; kept = kept; json = json; stats = stats; bits = bits; leaks = leaks; real = real; files = files })
 
 -- what the words ask for, or none where they aren't a command
 abbrev pub meaning_of : List Text → Option Command
@@ -170,7 +176,7 @@ none_in (x ∷ xs) = false
 abbrev pub is_bare : List Argument → Bool
 is_bare arguments =
     (((none_in (values_of (Number Workers) arguments) && none_in (values_of Exec arguments)) && none_in (values_of Bits arguments)) && none_in (values_of Kept arguments))
-    && ((none_in (uses_of Json arguments) && none_in (uses_of Stats arguments)) && none_in (uses_of Leaks arguments))
+    && (((none_in (uses_of Json arguments) && none_in (uses_of Stats arguments)) && none_in (uses_of Leaks arguments)) && none_in (uses_of Real arguments))
 
 abbrev pub keep_by : List Argument → Option Command
 keep_by arguments = if is_bare arguments then command_by arguments else None
@@ -190,5 +196,6 @@ view_of o = record {
   stats = o.stats;
   bits = o.bits;
   leaks = o.leaks;
+  real = o.real;
   files = map (λ file. file.now) o.files.items;
 }

@@ -3,7 +3,7 @@ use Rattle.std.specs.Prelude.{ℕ, List, [], ◌∷◌, codes}
 use Rattle.px_base.specs.LimitNumbers.{least_of, most_of}
 use Rattle.px_base.specs.declared.limits.LimitField.TheVariants as field
 use Rattle.px_words.specs.declared.flag_name.FlagName.{FlagName}
-use Rattle.px_words.specs.declared.flag_name.FlagName.TheVariants.{Json, Stats, Leaks}
+use Rattle.px_words.specs.declared.flag_name.FlagName.TheVariants.{Json, Stats, Leaks, Real}
 use Rattle.px_words.specs.declared.option_name.OptionName.{OptionName}
 use Rattle.px_words.specs.declared.option_name.OptionName.TheVariants.{Number, Exec, Bits, Kept}
 use Rattle.px_words.specs.declared.option_name.NumberName.{NumberName}
@@ -13,7 +13,7 @@ abbrev pub all_options : List OptionName
 all_options = Number Unroll ∷ Number Paths ∷ Number Nodes ∷ Number Workers ∷ Exec ∷ Bits ∷ Kept ∷ []
 
 abbrev pub all_flags : List FlagName
-all_flags = Json ∷ Stats ∷ Leaks ∷ []
+all_flags = Json ∷ Stats ∷ Leaks ∷ Real ∷ []
 
 -- what stands after `--`
 abbrev pub number_name : NumberName → List ℕ
@@ -32,6 +32,7 @@ abbrev pub flag_name : FlagName → List ℕ
 flag_name Json = codes "json"
 flag_name Stats = codes "stats"
 flag_name Leaks = codes "leaks"
+flag_name Real = codes "real"
 
 -- the range of its number: the bounds of the analysis have theirs in px_base
 abbrev pub least_number : NumberName → ℕ

@@ -12,7 +12,7 @@ words_of line = slice_split (λ b. b == 32) line
 -- the words ask for these numbers and files, and for JSON or not; or for nothing
 abbrev pub AsksFor : Bool → List Text → ℕ → ℕ → ℕ → List Text → Type 0
 AsksFor json words unroll paths nodes files =
-    meaning_of words ≡ Some (record { limits = record { unroll = unroll; paths = paths; nodes = nodes }; workers = 0; exec = None; kept = None; json = json; stats = false; bits = None; leaks = false; files = files })
+    meaning_of words ≡ Some (record { limits = record { unroll = unroll; paths = paths; nodes = nodes }; workers = 0; exec = None; kept = None; json = json; stats = false; bits = None; leaks = false; real = false; files = files })
 
 abbrev pub Asks : List Text → ℕ → ℕ → ℕ → List Text → Type 0
 Asks = AsksFor false
@@ -20,27 +20,33 @@ Asks = AsksFor false
 -- the words ask for the help of so many workers that run this program, and for the count of events or not
 abbrev pub AsksHelp : Bool → List Text → ℕ → Option Text → List Text → Type 0
 AsksHelp stats words workers exec files =
-    meaning_of words ≡ Some (record { limits = record { unroll = 3; paths = 64; nodes = 10000 }; workers = workers; exec = exec; kept = None; json = false; stats = stats; bits = None; leaks = false; files = files })
+    meaning_of words ≡ Some (record { limits = record { unroll = 3; paths = 64; nodes = 10000 }; workers = workers; exec = exec; kept = None; json = false; stats = stats; bits = None; leaks = false; real = false; files = files })
 
 -- the words ask for leaks after the report, and for the count of events or not
 abbrev pub AsksLeaks : Bool → List Text → List Text → Type 0
 AsksLeaks stats words files =
-    meaning_of words ≡ Some (record { limits = record { unroll = 3; paths = 64; nodes = 10000 }; workers = 0; exec = None; kept = None; json = false; stats = stats; bits = None; leaks = true; files = files })
+    meaning_of words ≡ Some (record { limits = record { unroll = 3; paths = 64; nodes = 10000 }; workers = 0; exec = None; kept = None; json = false; stats = stats; bits = None; leaks = true; real = false; files = files })
 
 -- the words ask for looks at bits after the report, which may learn so many clauses, and for leaks or not
 abbrev pub AsksBits : Bool → List Text → ℕ → List Text → Type 0
 AsksBits leaks words bits files =
-    meaning_of words ≡ Some (record { limits = record { unroll = 3; paths = 64; nodes = 10000 }; workers = 0; exec = None; kept = None; json = false; stats = false; bits = Some bits; leaks = leaks; files = files })
+    meaning_of words ≡ Some (record { limits = record { unroll = 3; paths = 64; nodes = 10000 }; workers = 0; exec = None; kept = None; json = false; stats = false; bits = Some bits; leaks = leaks; real = false; files = files })
+
+-- the words ask for a report on preprocessed C, as JSON or not, for the count of events or not, with these workers or kept summaries, and
+-- for looks at bits or not
+abbrev pub AsksReal : Bool → Bool → ℕ → Option Text → Option Text → Option ℕ → List Text → List Text → Type 0
+AsksReal json stats workers exec kept bits words files =
+    meaning_of words ≡ Some (record { limits = record { unroll = 3; paths = 64; nodes = 10000 }; workers = workers; exec = exec; kept = kept; json = json; stats = stats; bits = bits; leaks = false; real = true; files = files })
 
 -- the words ask for a report with the help of the summaries that this file keeps, as JSON or not, and for the line after it or not
 abbrev pub AsksKept : Bool → Bool → List Text → Text → List Text → Type 0
 AsksKept json stats words path files =
-    meaning_of words ≡ Some (record { limits = record { unroll = 3; paths = 64; nodes = 10000 }; workers = 0; exec = None; kept = Some path; json = json; stats = stats; bits = None; leaks = false; files = files })
+    meaning_of words ≡ Some (record { limits = record { unroll = 3; paths = 64; nodes = 10000 }; workers = 0; exec = None; kept = Some path; json = json; stats = stats; bits = None; leaks = false; real = false; files = files })
 
 -- the words after `keep` ask for this
 abbrev pub Keeps : List Text → ℕ → ℕ → ℕ → List Text → Type 0
 Keeps words unroll paths nodes files =
-    keep_of words ≡ Some (record { limits = record { unroll = unroll; paths = paths; nodes = nodes }; workers = 0; exec = None; kept = None; json = false; stats = false; bits = None; leaks = false; files = files })
+    keep_of words ≡ Some (record { limits = record { unroll = unroll; paths = paths; nodes = nodes }; workers = 0; exec = None; kept = None; json = false; stats = false; bits = None; leaks = false; real = false; files = files })
 
 abbrev pub IsNoKeep : List Text → Type 0
 IsNoKeep words = keep_of words ≡ None
@@ -136,6 +142,19 @@ pub record WorkedCommands : Type 0 where
   pub leaks_alone : IsRefused (words_of (codes "--leaks"))
   pub leaks_with_json : IsRefused (words_of (codes "--leaks --json a.c"))
   pub json_with_leaks : IsRefused (words_of (codes "--json a.c --leaks"))
+  pub real_first : AsksReal false false 0 None None None (words_of (codes "--real a.c")) (codes "a.c" ∷ [])
+  pub real_last : AsksReal false false 0 None None None (words_of (codes "a.c --real")) (codes "a.c" ∷ [])
+  pub real_and_json : AsksReal true true 0 None None None (words_of (codes "--real --json --stats a.c")) (codes "a.c" ∷ [])
+  pub real_and_bits : AsksReal false false 0 None None (Some 2) (words_of (codes "--bits 2 a.c --real b.c")) (codes "a.c" ∷ codes "b.c" ∷ [])
+  pub real_and_workers : AsksReal false false 2 (Some (codes "x")) None None (words_of (codes "--real --workers 2 --exec x a.c")) (codes "a.c" ∷ [])
+  pub real_and_kept : AsksReal false false 0 None (Some (codes "k")) None (words_of (codes "--kept k --real a.c")) (codes "a.c" ∷ [])
+  pub real_after_end : Asks (words_of (codes "-- --real")) 3 64 10000 (codes "--real" ∷ [])
+  pub real_twice : IsRefused (words_of (codes "--real --real a.c"))
+  pub real_attached : IsRefused (words_of (codes "--real=1 a.c"))
+  pub real_shorter : IsRefused (words_of (codes "--rea a.c"))
+  pub real_alone : IsRefused (words_of (codes "--real"))
+  pub real_with_leaks : IsRefused (words_of (codes "--real --leaks a.c"))
+  pub leaks_with_real : IsRefused (words_of (codes "--leaks --real a.c"))
   pub bits_apart : AsksBits false (words_of (codes "--bits 1000 a.c")) 1000 (codes "a.c" ∷ [])
   pub bits_attached : AsksBits false (words_of (codes "a.c --bits=1")) 1 (codes "a.c" ∷ [])
   pub bits_most : AsksBits false (words_of (codes "a.c --bits 100000")) 100000 (codes "a.c" ∷ [])
@@ -188,6 +207,7 @@ pub record WorkedKeeps : Type 0 where
   pub keep_json : IsNoKeep (words_of (codes "--json a.c"))
   pub keep_stats : IsNoKeep (words_of (codes "a.c --stats"))
   pub keep_leaks : IsNoKeep (words_of (codes "--leaks a.c"))
+  pub keep_real : IsNoKeep (words_of (codes "--real a.c"))
   pub keep_bits : IsNoKeep (words_of (codes "--bits 1 a.c"))
   pub keep_kept : IsNoKeep (words_of (codes "--kept k a.c"))
   pub keep_exec : IsNoKeep (words_of (codes "--exec x a.c"))

@@ -24,7 +24,8 @@ pub(crate) fn words_command<'a>(alloc: Global) -> Result<Command<'a>, AllocError
     let json = kept.arg(flag_arg(alloc, FlagName::Json))?;
     let stats = json.arg(flag_arg(alloc, FlagName::Stats))?;
     let leaks = stats.arg(flag_arg(alloc, FlagName::Leaks))?;
-    leaks.arg(file_arg(alloc))
+    let real = leaks.arg(flag_arg(alloc, FlagName::Real))?;
+    real.arg(file_arg(alloc))
 }
 
 fn bare_command<'a>(alloc: Global) -> Command<'a>

@@ -10,6 +10,8 @@ pub enum FlagName {
     Stats,
     /// Leaks are told after the report.
     Leaks,
+    /// The files are read as preprocessed C.
+    Real,
 }
 
 impl FlagName {
@@ -21,6 +23,7 @@ impl FlagName {
             FlagName::Json => "json",
             FlagName::Stats => "stats",
             FlagName::Leaks => "leaks",
+            FlagName::Real => "real",
         }
     }
 }

@@ -1,11 +1,11 @@
 ghost use Rattle.std.specs.Prelude.{◌≡◌, ◌&&◌, not, IfOk, IfSome, IfNone, None, map, option_map};
 ghost use Rattle.clap.specs.Words.{rows_of, found_of};
 ghost use Rattle.px_base.specs.Texts.{texts};
-ghost use Rattle.px_words.specs.declared.flag_name.FlagName.TheVariants.{Json, Stats, Leaks};
+ghost use Rattle.px_words.specs.declared.flag_name.FlagName.TheVariants.{Json, Stats, Leaks, Real};
 ghost use Rattle.px_words.specs.declared.option_name.OptionName.TheVariants.{Number, Exec, Bits, Kept};
 ghost use Rattle.px_words.specs.declared.option_name.NumberName.TheVariants.{Workers};
-ghost use Rattle.px_words.specs.ClapCommand.{number_found, flag_found, limits_within, limits_found, workers_found, exec_found, kept_found, help_of, help_found, bits_found, bits_given, leaks_found, files_found, command_found, lacks, bare_found, keep_found};
-ghost use Rattle.px_words.specs.Meaning.{exec_written, bits_written, with_text, meaning_of, keep_of, view_of, some_files};
+ghost use Rattle.px_words.specs.ClapCommand.{number_found, flag_found, limits_within, limits_found, workers_found, exec_found, kept_found, help_of, help_found, bits_found, bits_given, leaks_found, real_found, files_found, command_found, lacks, bare_found, keep_found};
+ghost use Rattle.px_words.specs.Meaning.{exec_written, bits_written, with_text, without_leaks, meaning_of, keep_of, view_of, some_files};
 
 use crate::command::{FILE, words_command};
 use crate::numbers::number_written;
@@ -47,11 +47,13 @@ pub struct Options<'a> {
     pub bits: Option<u32>,
     /// Whether leaks are told after the report, which is then a text.
     pub leaks: bool,
+    /// Whether the files are read as preprocessed C; no leaks are told then.
+    pub real: bool,
     /// From 1 to 64 files, in the order of the words.
     pub files: Vec<&'a str>,
 }
 
-/// Reads `[--unroll K] [--paths N] [--nodes N] [--workers W] [--exec PATH] [--kept PATH] [--json] [--stats] [--bits K] [--leaks] FILE..`, or answers none where the words aren't that.
+/// Reads `[--unroll K] [--paths N] [--nodes N] [--workers W] [--exec PATH] [--kept PATH] [--json] [--stats] [--bits K] [--leaks] [--real] FILE..`, or answers none where the words aren't that.
 pub fn read_options<'a>(alloc: Global, words: &'a [String]) -> Result<Option<Options<'a>>, NoMemory>
     ensures { IfOk result (λ o. option_map view_of o ≡ meaning_of (texts words.entry.now)) }
 {
@@ -122,11 +124,12 @@ fn has_no_option(matches: &ArgMatches<'_>) -> bool
 }
 
 fn has_no_flag(matches: &ArgMatches<'_>) -> bool
-    ensures { result ≡ ((not (flag_found Json (rows_of (found_of matches.now))) && not (flag_found Stats (rows_of (found_of matches.now)))) && not (flag_found Leaks (rows_of (found_of matches.now)))) }
+    ensures { result ≡ (((not (flag_found Json (rows_of (found_of matches.now))) && not (flag_found Stats (rows_of (found_of matches.now)))) && not (flag_found Leaks (rows_of (found_of matches.now)))) && not (flag_found Real (rows_of (found_of matches.now)))) }
 {
     !is_given(matches, FlagName::Json)
         && !is_given(matches, FlagName::Stats)
         && !is_given(matches, FlagName::Leaks)
+        && !is_given(matches, FlagName::Real)
 }
 
 fn lacks(matches: &ArgMatches<'_>, option: OptionName) -> bool
@@ -161,6 +164,9 @@ fn options_in<'a>(alloc: Global, matches: &ArgMatches<'a>) -> Result<Option<Opti
     let Some(leaks) = leaks_in(matches) else {
         return Ok(None);
     };
+    let Some(real) = real_in(matches, leaks) else {
+        return Ok(None);
+    };
     let Some(files) = files_in(alloc, matches)? else {
         return Ok(None);
     };
@@ -173,6 +179,7 @@ fn options_in<'a>(alloc: Global, matches: &ArgMatches<'a>) -> Result<Option<Opti
         stats: is_given(matches, FlagName::Stats),
         bits,
         leaks,
+        real,
         files,
     }))
 }
@@ -255,6 +262,20 @@ fn leaks_in(matches: &ArgMatches<'_>) -> Option<bool>
 {
     let leaks = is_given(matches, FlagName::Leaks);
     with_text(is_given(matches, FlagName::Json), leaks, leaks)
+}
+
+// Whether files are read as preprocessed C, where no leaks are asked for if they are.
+fn real_in(matches: &ArgMatches<'_>, leaks: bool) -> Option<bool>
+    ensures { result ≡ real_found leaks (rows_of (found_of matches.now)) }
+{
+    without_leaks(leaks, is_given(matches, FlagName::Real))
+}
+
+// Nothing is told of leaks where files are read as preprocessed C.
+fn without_leaks(leaks: bool, asked: bool) -> Option<bool>
+    ensures { result ≡ without_leaks leaks asked }
+{
+    if leaks && asked { None } else { Some(asked) }
 }
 
 // What comes after a report is told after a text alone.

@@ -49,7 +49,7 @@ fn put_names(out: &mut String, asked: &ReportAsked) -> Result<()> {
     Ok(())
 }
 
-// The workers that are asked for, and their program, the file of kept summaries, and that the events are to be counted; the looks at bits, and that leaks are to be told.
+// The workers that are asked for, and their program, the file of kept summaries, and that the events are to be counted; the looks at bits, that leaks are to be told, and that the files are preprocessed C.
 fn help(alloc: Global, asked: &ReportAsked) -> Result<String> {
     let mut out = String::new(alloc);
     if asked.check.pool.workers > 0 {
@@ -70,6 +70,9 @@ fn help(alloc: Global, asked: &ReportAsked) -> Result<String> {
     }
     if more.leaks {
         out.push_str(", leaks")?;
+    }
+    if asked.check.real {
+        out.push_str(", real")?;
     }
     Ok(out)
 }

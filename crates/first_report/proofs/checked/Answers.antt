@@ -1,13 +1,14 @@
 use Rattle.px_base.specs.Texts.{texts}
 use Rattle.px_syntax.specs.ProgramTree.{program_tree}
+use Rattle.px_loading.specs.declared.language.Language.TheVariants.{Profile}
 use Rattle.px_loading.proofs.Allowed.{all_of}
 use Rattle.px_truth.proofs.AnalysableFiles.{analysable}
 use Rattle.first_report.proofs.checked.Goals as goal
 
-pub load-requires-clause-allowed : goal.load-requires-clause-allowed
-load-requires-clause-allowed g c = all_of _ _ c.requires.allowed
+pub load_profile-requires-clause-allowed : goal.load_profile-requires-clause-allowed
+load_profile-requires-clause-allowed g c = all_of _ _ c.requires.allowed
 
 pub write_report-requires : goal.write_report-requires
 write_report-requires g c =
     let r = c.in-Ok.ensures.program in
-    analysable (texts c.deref.result.now) r.0 (program_tree c.in-Ok.program) r.2
+    analysable Profile (texts c.deref.result.now) r.0 (program_tree c.in-Ok.program) r.2

@@ -1,28 +1,37 @@
-use Rattle.std.proofs.Common.{◌≤◌, ◌∙◌, length, ap, sym, subst}
-use Rattle.std.specs.List.{AllByRecursion}
+use Rattle.std.proofs.Common.{List, sym, subst}
+use Rattle.std.specs.Prelude.{IfOk, IfErr}
+use Rattle.px_io.specs.Reads.{Given}
 use Rattle.px_base.specs.Texts.{texts}
 use Rattle.px_syntax.specs.ProgramTree.{program_tree}
-use Rattle.px_loading.specs.Inputs.{most_bytes}
-use Rattle.px_loading.specs.Stops.{all_read}
+use Rattle.px_loading.specs.Stops.{GivesAll}
 use Rattle.px_loading.specs.Refusals.{SaysAlone}
 use Rattle.px_loading.specs.Faults.{IsFaultOf}
-use Rattle.px_loading.proofs.Loops.{sources_short, if_ok, if_err}
 use Rattle.px_loading.proofs.loading.load.Goals as goal
 
-pub program_of-requires-clause-as_many : goal.program_of-requires-clause-as_many
-program_of-requires-clause-as_many g c = ap length c.deref.ensures.value ∙ c.in_ok-sources.ensures.contents.1
+pub returns-in-Profile-clause-program : goal.returns-in-Profile-clause-program
+returns-in-Profile-clause-program g c =
+    let m = g.F.Files in
+    let names = texts c.args.names.now in
+    let x = c.load_profile in
+    subst (λ l. IfOk x.result (λ P. (given : List Given) × GivesAll m.told m.count m.gives c.args.files.now x.new.files names given × SaysAlone l names given (program_tree P))) (sym c.in-Profile.is) x.ensures.program
 
-pub program_of-requires-clause-short : goal.program_of-requires-clause-short
-program_of-requires-clause-short g c =
-    subst (λ ss. AllByRecursion (λ s. length s.items ≤ most_bytes) ss) (sym c.deref.ensures.value)
-    (sources_short (g.F.Files.told c.args.files.now) (texts c.args.names.now) c.in_ok-sources.sources.items c.in_ok-sources.ensures.contents.0.1)
+pub returns-in-Profile-clause-none : goal.returns-in-Profile-clause-none
+returns-in-Profile-clause-none g c =
+    let m = g.F.Files in
+    let names = texts c.args.names.now in
+    let x = c.load_profile in
+    subst (λ l. IfErr x.result (λ fault. (given : List Given) × GivesAll m.told m.count m.gives c.args.files.now x.new.files names given × IsFaultOf l names given fault)) (sym c.in-Profile.is) x.ensures.none
 
-pub returns-clause-program : goal.returns-clause-program
-returns-clause-program g c =
-    if_ok c.program_of.result c.program_of.ensures.program
-    (λ P h. (all_read c.in_ok-sources.sources.items, c.in_ok-sources.ensures.contents.0, subst (λ ss. SaysAlone (texts c.args.names.now) (all_read ss) (program_tree P)) c.deref.ensures.value h))
+pub returns-in-Real-clause-program : goal.returns-in-Real-clause-program
+returns-in-Real-clause-program g c =
+    let m = g.F.Files in
+    let names = texts c.args.names.now in
+    let x = c.load_real in
+    subst (λ l. IfOk x.result (λ P. (given : List Given) × GivesAll m.told m.count m.gives c.args.files.now x.new.files names given × SaysAlone l names given (program_tree P))) (sym c.in-Real.is) x.ensures.program
 
-pub returns-clause-none : goal.returns-clause-none
-returns-clause-none g c =
-    if_err c.program_of.result c.program_of.ensures.none
-    (λ fault h. (all_read c.in_ok-sources.sources.items, c.in_ok-sources.ensures.contents.0, subst (λ ss. IsFaultOf (texts c.args.names.now) (all_read ss) fault) c.deref.ensures.value h))
+pub returns-in-Real-clause-none : goal.returns-in-Real-clause-none
+returns-in-Real-clause-none g c =
+    let m = g.F.Files in
+    let names = texts c.args.names.now in
+    let x = c.load_real in
+    subst (λ l. IfErr x.result (λ fault. (given : List Given) × GivesAll m.told m.count m.gives c.args.files.now x.new.files names given × IsFaultOf l names given fault)) (sym c.in-Real.is) x.ensures.none

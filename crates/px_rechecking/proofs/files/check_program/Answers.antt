@@ -29,7 +29,7 @@ returns-in-Ok-clause-answers g c =
         (subst (λ (name : List ℕ). IfSome (m.told c.args.files.now name) (λ k. bytes ≡ k)) at x.ensures.contents, x.ensures.within),
         read_counted (m.count c.args.files.now) (m.count c.read.new.self) _ x.ensures.cause,
       ),
-      λ names given says. c.check_by_bytes.ensures.answers names given says,
+      λ l names given says. c.check_by_bytes.ensures.answers l names given says,
     )
 
 pub returns-in-Err-Failed-clause-answers : goal.returns-in-Err-Failed-clause-answers
@@ -46,8 +46,8 @@ returns-in-Err-Failed-clause-answers g c =
         (λ w. absurd cc),
         subst (λ f. CountsFailed (m.count c.args.files.now) (m.count c.read.new.self) (Err f ∷ [])) x.field-0-is (read_counted (m.count c.args.files.now) (m.count c.read.new.self) _ x.ensures.cause),
       ),
-      λ names given says. at_status _ _ _ _ _ names path given _ _ _ (Some (Err F.Failed)) S.Unread _ c.tell.ensures.status
-          (with_failed _ _ _ _ _ names path given _ _ _ (program_tree c.args.program.now) says line),
+      λ l names given says. at_status l _ _ _ _ _ names path given _ _ _ (Some (Err F.Failed)) S.Unread _ c.tell.ensures.status
+          (with_failed l _ _ _ _ _ names path given _ _ _ (program_tree c.args.program.now) says line),
     )
 
 pub returns-in-Err-Long-clause-answers : goal.returns-in-Err-Long-clause-answers
@@ -65,8 +65,8 @@ returns-in-Err-Long-clause-answers g c =
         (λ w. subst (λ (name : List ℕ). IfSome (m.told c.args.files.now name) (λ k. most_kept_bytes < length k)) at (x.ensures.long (ap Err x.field-0-is))),
         subst (λ f. CountsFailed (m.count c.args.files.now) (m.count c.read.new.self) (Err f ∷ [])) x.field-0-is (read_counted (m.count c.args.files.now) (m.count c.read.new.self) _ x.ensures.cause),
       ),
-      λ names given says. at_status _ _ _ _ _ names path given _ _ _ (Some (Err F.Long)) S.Refused _ t.ensures.status
-          (with_refused _ _ _ _ _ names path given _ _ _ (program_tree c.args.program.now) says (Some (Err F.Long)) (path ++ long_text) (λ k. cc) (inl (refl, refl)) line),
+      λ l names given says. at_status l _ _ _ _ _ names path given _ _ _ (Some (Err F.Long)) S.Refused _ t.ensures.status
+          (with_refused l _ _ _ _ _ names path given _ _ _ (program_tree c.args.program.now) says (Some (Err F.Long)) (path ++ long_text) (λ k. cc) (inl (refl, refl)) line),
     )
 
 pub returns-in-Err-NoMemory-clause-answers : goal.returns-in-Err-NoMemory-clause-answers
@@ -82,6 +82,6 @@ returns-in-Err-NoMemory-clause-answers g c =
         (λ w. absurd cc),
         subst (λ f. CountsFailed (m.count c.args.files.now) (m.count c.read.new.self) (Err f ∷ [])) x.field-0-is (read_counted (m.count c.args.files.now) (m.count c.read.new.self) _ x.ensures.cause),
       ),
-      λ names given says. at_status _ _ _ _ _ names path given _ _ _ (Some (Err F.NoMemory)) S.NoMemory _ t.ensures.status
-          (with_memory _ _ _ _ _ names path given _ _ _ (Some (Err F.NoMemory)) (were_read names given (program_tree c.args.program.now) says) (λ k. cc) t.ensures.line),
+      λ l names given says. at_status l _ _ _ _ _ names path given _ _ _ (Some (Err F.NoMemory)) S.NoMemory _ t.ensures.status
+          (with_memory l _ _ _ _ _ names path given _ _ _ (Some (Err F.NoMemory)) (were_read l names given (program_tree c.args.program.now) says) (λ k. cc) t.ensures.line),
     )

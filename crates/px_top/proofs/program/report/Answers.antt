@@ -5,6 +5,7 @@ use Rattle.px_base.specs.Bounds.{most_files}
 use Rattle.px_base.specs.Texts.{texts}
 use Rattle.px_io.specs.Reads.{Given}
 use Rattle.px_lines.specs.Sinks.{change}
+use Rattle.px_loading.specs.Languages.{language_of}
 use Rattle.px_programs.proofs.Lists.{all_first, all_second}
 use Rattle.px_report.specs.Forms.{form}
 use Rattle.px_rechecking.specs.declared.files.KeptCheck.{KeptCheck}
@@ -46,7 +47,7 @@ returns-in-Some-clause-answers g c =
     let r = c.check_with_kept in
     subst (λ o. AnswersBy says (told a.spawner.now) (told a.spawner.now) kinds f.told f.count f.gives a.files.now r.new.files k.told k.count a.out.now r.new.out e.told e.count a.err.now r.new.err r.result (check_view a.asked) (option_map string_bytes o)) (sym c.in-Some.is)
     (subst (λ (q : KeptCheck). (given : List Given) × (kept : Option Given) × GivesWithKept f.told f.count f.gives a.files.now r.new.files (texts q.names.items) (string_bytes q.path) given kept
-    × AnswersWith q.limits (form a.asked.form.json) q.stats q.more kinds (texts q.names.items) (string_bytes q.path) given kept (change k.told k.count a.out.now r.new.out) (change e.told e.count a.err.now r.new.err) (r.new.err ≡ a.err.now) r.result) c.with_kept-asked.ensures r.ensures.answers)
+    × AnswersWith (language_of q.real) q.limits (form a.asked.form.json) q.stats q.more kinds (texts q.names.items) (string_bytes q.path) given kept (change k.told k.count a.out.now r.new.out) (change e.told e.count a.err.now r.new.err) (r.new.err ≡ a.err.now) r.result) c.with_kept-asked.ensures r.ensures.answers)
 
 pub returns-in-None-clause-answers : goal.returns-in-None-clause-answers
 returns-in-None-clause-answers g c =

@@ -6,7 +6,7 @@ returns c =
     found_right
     (record {
       numbers = c.programs_have_their_numbers.ensures;
-      bodies = c.bodies_of_files_keep.ensures;
+      bodies = c.bodies_of_programs_keep.ensures;
       triples = c.triples_are_of_trees.ensures;
       valid = c.entries_are_valid.ensures;
       checked = c.checked_are_valid.ensures;
@@ -15,7 +15,6 @@ returns c =
       bugs = c.bugs_are_of_entries.ensures;
       leaks = c.leaks_are_of_entries.ensures;
       leaking = c.leaks_are_right.ensures;
-      typing = c.programs_keep_typing.ensures;
       lowering = c.lowering_keeps.ensures;
       covers = c.tables_cover.ensures;
       by_any_numbers = c.numbers_dont_matter.ensures;

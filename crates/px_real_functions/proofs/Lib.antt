@@ -1,0 +1,3 @@
+pub mod KeptLemmas
+pub mod ShapedLemmas
+pub mod WorkedByReading

@@ -1,0 +1,59 @@
+-- The numbers of all that there may be, as those of what is named.
+use Rattle.std.specs.Prelude.{◌≡◌, ◌⊎◌, ℕ, ◌<◌, Bool, true, List, map, flat_map, length, slice_get, is_some}
+use Rattle.std.specs.Str.{bytes_eq}
+use Rattle.std.specs.List.{AllByRecursion}
+use Rattle.px_terms.specs.declared.types.BlockType.{BlockType}
+use Rattle.px_meaning.specs.TypedProgram.{TypedProgram}
+use Rattle.px_meaning.specs.TreeTypes.{KeepsTyping}
+use Rattle.px_expressions.specs.Reading.{or_else}
+use Rattle.px_typing.specs.Sights.{number_in}
+use Rattle.px_real_types.specs.declared.shape.ProfileType.{ProfileType}
+use Rattle.px_real_types.specs.Types.{int, same_type}
+use Rattle.px_real_program.specs.Files.{FileTree}
+use Rattle.px_real_program.specs.Sights.{Sight, a_function, a_block, a_word, in_procedure}
+use Rattle.px_real_program.specs.Numbers.{KnownFile, known_files, NumbersTree, out_id, unknown_id}
+use Rattle.px_real_program.specs.Programs.{procedures, all_numbers, block_in, out_at, unknown_at, numbers_of}
+use Rattle.px_real_laws.specs.Renumbering.{Renumbering, new_procedure}
+
+abbrev pub text_at : List (List ℕ) → ℕ → List ℕ
+text_at texts n = or_else (slice_get texts n) (λ text. text) []
+
+abbrev pub type_at : List ProfileType → ℕ → ProfileType
+type_at ts n = or_else (slice_get ts n) (λ t. t) int
+
+module _ (all own : NumbersTree) where
+  abbrev pub own_function : ℕ → ℕ
+  own_function n = or_else (out_at all n) (λ name. (out_id own name).0) (or_else (unknown_at all n) (λ name. (unknown_id own name).0) n)
+
+  abbrev pub narrowing : Renumbering
+  narrowing = record { function = own_function; block = λ n. number_in same_type own.types (type_at all.types n); word = λ n. number_in bytes_eq own.words (text_at all.words n) }
+
+-- a number of something that there is
+abbrev pub IsWithin : NumbersTree → Sight → Type 0
+IsWithin all (a_function n) = (n < length all.kept) ⊎ ((is_some (out_at all n) ≡ true) ⊎ (is_some (unknown_at all n) ≡ true))
+IsWithin all (a_block n) = is_some (slice_get all.types n) ≡ true
+IsWithin all (a_word n) = is_some (slice_get all.words n) ≡ true
+
+-- the procedures in the numbers of all that there may be, as a program
+abbrev pub with_all : List KnownFile → NumbersTree → TypedProgram
+with_all fs all = record { types = map (block_in fs all) all.types; procedures = λ f. slice_get (procedures fs all) f }
+
+-- ---- what is to hold of the program of files
+
+module _ (files : List FileTree) where
+  abbrev fs : List KnownFile
+  fs = known_files files
+
+  abbrev all : NumbersTree
+  all = all_numbers files fs
+
+  -- its procedures are those in all numbers, with other numbers
+  abbrev pub IsNarrowed : Type 0
+  IsNarrowed = procedures fs (numbers_of files fs) ≡ map (new_procedure (narrowing all (numbers_of files fs))) (procedures fs all)
+
+  -- in all numbers they keep the typing rules, and each number is of something that there is
+  abbrev pub KeepsTypingBefore : Type 0
+  KeepsTypingBefore = KeepsTyping (with_all fs all)
+
+  abbrev pub IsWithinBefore : Type 0
+  IsWithinBefore = AllByRecursion (IsWithin all) (flat_map in_procedure (procedures fs all))

@@ -1,0 +1,2 @@
+pub mod OneExternal
+pub mod OneReading

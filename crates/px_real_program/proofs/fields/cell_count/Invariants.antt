@@ -1,0 +1,10 @@
+use Rattle.std.proofs.Common.{◌≡◌, ◌≤◌, ◌+◌, length, map, drop}
+use Rattle.px_real_scopes.specs.Views.{member_view}
+use Rattle.px_real_program.specs.Structs.{field_of, cells_of}
+use Rattle.px_real_program.proofs.fields.cell_count.Given as goal
+
+-- with those of what is left these are all
+abbrev pub invariant-loop-member : goal.invariant-loop-member
+invariant-loop-member l =
+    (l.count ≤ l.member-index)
+    × (l.count + length (cells_of (map (field_of l.structs) (map member_view (drop l.member-index l.members)))) ≡ length (cells_of (map (field_of l.structs) (map member_view l.members))))

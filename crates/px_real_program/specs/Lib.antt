@@ -1,0 +1,11 @@
+pub mod Files
+pub mod Looks
+pub mod Structs
+pub mod Hidden
+pub mod Keeping
+pub mod Sights
+pub mod Numbers
+pub mod Programs
+pub mod Views
+pub mod Steps
+pub mod WorkedPrograms
