@@ -18,7 +18,7 @@ use Rattle.px_real_program.specs.Sights.{in_procedure}
 use Rattle.px_real_program.specs.Numbers.{KnownFile, NumbersTree, known_files}
 use Rattle.px_real_program.specs.Programs.{procedures, all_numbers, numbers_of, kept_name, pointing, value_in, cells_at, struct_block, block_in, program_of}
 use Rattle.px_real_laws.specs.Laws.{said}
-use Rattle.px_real_laws.specs.Renumbering.{Renumbering, new_procedure}
+use Rattle.px_real_program.specs.Renumbering.{Renumbering, new_procedure}
 use Rattle.px_real_laws.specs.Narrowing.{narrowing, IsNarrowed, IsWithinBefore}
 use Rattle.px_real_laws.proofs.RenumberedListed.{IsNew, procedure_listed}
 use Rattle.px_real_laws.proofs.Narrowed.{int_named, all_new}

@@ -14,7 +14,7 @@ use Rattle.px_meaning.specs.Values.{ValueType, Int, Pointer}
 use Rattle.px_meaning.specs.TypedProgram.{TypedProgram}
 use Rattle.px_meaning.specs.TreeTypes.{LocalTypes, type_of_cell, IsDefined, AgreesWith, IsOf, AreOf, ArePassed, IsCondition, IsPlaceOf, IsConditionIf, IsDeclared, IsReturned, IsStep, AreSteps, IsStatement, AreStatements, local_types, IsTypedProcedure}
 use Rattle.px_real_program.specs.Sights.{Sight, a_function, a_block, a_word, in_value, in_expression, in_expressions, in_arguments, in_condition, in_expression_if, in_condition_if, in_place, in_statement, in_statements}
-use Rattle.px_real_laws.specs.Renumbering.{Renumbering, new_function, new_block, new_value, new_expression, new_expressions, new_arguments, new_condition, new_place, new_statement, new_statements, new_procedure}
+use Rattle.px_real_program.specs.Renumbering.{Renumbering, new_function, new_block, new_value, new_expression, new_expressions, new_arguments, new_condition, new_place, new_statement, new_statements, new_procedure}
 
 module _ (r : Renumbering) (P Q : TypedProgram) where
   -- a block type of P is what it is in Q by its new number

@@ -9,7 +9,7 @@ use Rattle.px_syntax.specs.ProgramTree.{ProcedureTree}
 use Rattle.px_programs.proofs.Lists.{all_first, all_second}
 use Rattle.px_programs.specs.Numbers.{IsValueListed, IsListed, AreListed, AreArgumentsListed, IsTestListed, IsPlaceListed, IsListedIf, IsTestListedIf, IsStatementListed, AreStatementsListed, IsProcedureListed}
 use Rattle.px_real_program.specs.Sights.{Sight, a_function, a_block, a_word, in_value, in_expression, in_expressions, in_arguments, in_condition, in_expression_if, in_condition_if, in_place, in_statement, in_statements, in_result, in_procedure}
-use Rattle.px_real_laws.specs.Renumbering.{Renumbering, new_value, new_expression, new_expressions, new_arguments, new_condition, new_place, new_statement, new_statements, new_procedure}
+use Rattle.px_real_program.specs.Renumbering.{Renumbering, new_value, new_expression, new_expressions, new_arguments, new_condition, new_place, new_statement, new_statements, new_procedure}
 
 module _ (r : Renumbering) (names types : ℕ) where
   -- its new number is of what is listed

@@ -23,7 +23,7 @@ use Rattle.px_real_program.specs.Sights.{Sight, a_function, a_block, a_word, in_
 use Rattle.px_real_program.specs.Numbers.{KnownFile, NumbersTree, known_files, kept_places, out_id, unknown_id}
 use Rattle.px_real_program.specs.Programs.{procedures, all_numbers, numbers_of, cells_at, struct_block, value_in, block_in, out_at, unknown_at, program_of}
 use Rattle.px_real_laws.specs.Laws.{said}
-use Rattle.px_real_laws.specs.Renumbering.{Renumbering, new_value, new_procedure}
+use Rattle.px_real_program.specs.Renumbering.{Renumbering, new_value, new_procedure}
 use Rattle.px_real_laws.specs.Narrowing.{type_at, own_function, narrowing, IsWithin, with_all, IsNarrowed, KeepsTypingBefore, IsWithinBefore}
 use Rattle.px_real_laws.proofs.ProcedureNumbers as Procedures
 use Rattle.px_real_laws.proofs.Renumbered.{IsSameBlock, IsSameFunction, IsSame, still_typed}

@@ -13,20 +13,7 @@ use Rattle.px_real_program.specs.Files.{FileTree}
 use Rattle.px_real_program.specs.Sights.{Sight, a_function, a_block, a_word, in_procedure}
 use Rattle.px_real_program.specs.Numbers.{KnownFile, known_files, NumbersTree, out_id, unknown_id}
 use Rattle.px_real_program.specs.Programs.{procedures, all_numbers, block_in, out_at, unknown_at, numbers_of}
-use Rattle.px_real_laws.specs.Renumbering.{Renumbering, new_procedure}
-
-abbrev pub text_at : List (List ℕ) → ℕ → List ℕ
-text_at texts n = or_else (slice_get texts n) (λ text. text) []
-
-abbrev pub type_at : List ProfileType → ℕ → ProfileType
-type_at ts n = or_else (slice_get ts n) (λ t. t) int
-
-module _ (all own : NumbersTree) where
-  abbrev pub own_function : ℕ → ℕ
-  own_function n = or_else (out_at all n) (λ name. (out_id own name).0) (or_else (unknown_at all n) (λ name. (unknown_id own name).0) n)
-
-  abbrev pub narrowing : Renumbering
-  narrowing = record { function = own_function; block = λ n. number_in same_type own.types (type_at all.types n); word = λ n. number_in bytes_eq own.words (text_at all.words n) }
+use Rattle.px_real_program.specs.Renumbering.{Renumbering, new_procedure}
 
 -- a number of something that there is
 abbrev pub IsWithin : NumbersTree → Sight → Type 0

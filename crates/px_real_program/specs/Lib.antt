@@ -4,6 +4,7 @@ pub mod Structs
 pub mod Hidden
 pub mod Keeping
 pub mod Sights
+pub mod Renumbering
 pub mod Numbers
 pub mod Programs
 pub mod Views

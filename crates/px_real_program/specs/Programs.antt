@@ -23,7 +23,8 @@ use Rattle.px_real_program.specs.Looks.{DefinedTree, look}
 use Rattle.px_real_program.specs.Structs.{FieldTree, StructTree, structs_in, cells_of}
 use Rattle.px_real_program.specs.Keeping.{name_or_none}
 use Rattle.px_real_program.specs.Sights.{Sight, in_procedure, function_seen, block_seen, word_seen}
-use Rattle.px_real_program.specs.Numbers.{KnownFile, known_files, Place, kept_places, defined_at, called, NumbersTree, kept_id, called_id, seen_by}
+use Rattle.px_real_program.specs.Renumbering.{Renumbering, new_procedure}
+use Rattle.px_real_program.specs.Numbers.{KnownFile, known_files, Place, kept_places, defined_at, called, NumbersTree, kept_id, out_id, unknown_id, called_id, seen_by}
 
 -- ---- procedures
 
@@ -203,7 +204,25 @@ narrowed fs m ss = record {
 }
 
 abbrev pub numbers_of : List FileTree → List KnownFile → NumbersTree
-numbers_of files fs = let m = all_numbers files fs in narrowed fs m (flat_map in_procedure (procedures fs m))
+numbers_of files fs = let all = all_numbers files fs in narrowed fs all (flat_map in_procedure (procedures fs all))
+
+-- each number of all that there may be as that of what is named
+abbrev pub text_at : List (List ℕ) → ℕ → List ℕ
+text_at texts n = or_else (slice_get texts n) (λ text. text) []
+
+abbrev pub type_at : List ProfileType → ℕ → ProfileType
+type_at ts n = or_else (slice_get ts n) (λ t. t) int
+
+module _ (all own : NumbersTree) where
+  abbrev pub own_function : ℕ → ℕ
+  own_function n = or_else (out_at all n) (λ name. (out_id own name).0) (or_else (unknown_at all n) (λ name. (unknown_id own name).0) n)
+
+  abbrev pub narrowing : Renumbering
+  narrowing = record { function = own_function; block = λ n. number_in same_type own.types (type_at all.types n); word = λ n. number_in bytes_eq own.words (text_at all.words n) }
+
+-- the procedures in these
+abbrev pub own_procedures : List FileTree → List KnownFile → List ProcedureTree
+own_procedures files fs = let all = all_numbers files fs in map (new_procedure (narrowing all (numbers_of files fs))) (procedures fs all)
 
 abbrev pub kept_name : List KnownFile → Place → List ℕ
 kept_name fs x = or_else (defined_at fs x) (λ d. name_or_none d.name) []
@@ -227,27 +246,19 @@ abbrev pub several_from : ℕ → ℕ → List ProcId
 several_from n zero = []
 several_from n (suc k) = record { 0 = n } ∷ several_from (n + 1) k
 
--- a program, and the numbers of the left-out names that no left-out item has
-pub record RunTree : Type 0 where
-  pub program : ProgramTree
-  pub several : List ProcId
-
-abbrev pub program_with : List FileTree → List KnownFile → NumbersTree → RunTree
-program_with files fs m =
-    let ps = procedures fs m in
+abbrev pub program_with : List FileTree → List KnownFile → NumbersTree → List ProcedureTree → ProgramTree
+program_with files fs m ps =
     let own = length (out_names fs) in
     record {
-      program = record {
-        names = map (kept_name fs) m.kept ++ (m.out ++ m.unknown);
-        kept = length ps;
-        procedures = ps;
-        types = map (block_in fs m) m.types;
-        left = map (left_of fs m) (left_in 0 fs);
-        files = map (λ (f : FileTree). f.name) files;
-        words = m.words;
-      };
-      several = several_from (length m.kept + own) (length m.out - own);
+      names = map (kept_name fs) m.kept ++ (m.out ++ m.unknown);
+      kept = length ps;
+      procedures = ps;
+      types = map (block_in fs m) m.types;
+      left = map (left_of fs m) (left_in 0 fs);
+      out = several_from (length m.kept + own) (length m.out - own);
+      files = map (λ (f : FileTree). f.name) files;
+      words = m.words;
     }
 
-unfoldable pub program_of : List FileTree → RunTree
-program_of files = let fs = known_files files in program_with files fs (numbers_of files fs)
+unfoldable pub program_of : List FileTree → ProgramTree
+program_of files = let fs = known_files files in program_with files fs (numbers_of files fs) (own_procedures files fs)

@@ -1,5 +1,5 @@
 -- What the code comes to, step by step.
-use Rattle.std.specs.Prelude.{◌≡◌, ℕ, ◌+◌, ◌*◌, ◌<◌, List, [], ◌∷◌, map, flat_map, filter_map, ◌++◌, length, slice_get, not, ◌&&◌, ◌||◌, Bool, false, Option, Some, None, is_some, is_none, option_map, unwrap_or, IfSome, codes, nat_eq, nat_lt, ⊤, ⊥, Vec, if◌then◌else◌}
+use Rattle.std.specs.Prelude.{◌≡◌, ℕ, ◌+◌, ◌*◌, ◌<◌, List, [], ◌∷◌, map, flat_map, filter_map, ◌++◌, length, slice_get, not, ◌&&◌, ◌||◌, Bool, false, Option, Some, None, is_some, is_none, option_map, unwrap_or, IfSome, codes, nat_eq, nat_lt, ◌-◌, ⊤, ⊥, Vec, if◌then◌else◌}
 use Rattle.std.specs.declared.alloc.Global.{Global}
 use Rattle.std.specs.Str.{bytes_eq}
 use Rattle.std.specs.Map.{lookup}
@@ -10,7 +10,7 @@ use Rattle.px_syntax.specs.declared.typed_expression.ArithmeticLink.{ArithmeticL
 use Rattle.px_syntax.specs.declared.typed_expression.RelationLink.{RelationLink}
 use Rattle.px_syntax.specs.declared.typed_expression.CellLink.{CellLink}
 use Rattle.px_syntax.specs.declared.typed_expression.Condition.{Condition}
-use Rattle.px_syntax.specs.TypedViews.{typed_expression, typed_condition}
+use Rattle.px_syntax.specs.TypedViews.{typed_expression, typed_condition, ArithmeticLinkTree, RelationLinkTree}
 use Rattle.px_expressions.specs.Reading.{or_else}
 use Rattle.px_expressions.specs.Terminals.{is_in}
 use Rattle.px_typing.specs.Sights.{first_sights, number_in}
@@ -41,14 +41,15 @@ use Rattle.px_real_program.specs.declared.numbers.Ids.{Ids}
 use Rattle.px_real_program.specs.declared.numbers.TypeIds.{TypeIds}
 use Rattle.px_real_program.specs.declared.numbers.TypeIds.TheVariants as I
 use Rattle.px_real_program.specs.declared.numbers.Numbers.{Numbers}
+use Rattle.px_real_program.specs.declared.narrowing.Narrowing.{Narrowing}
 use Rattle.px_real_program.specs.declared.known.KnownFile.{KnownFile as Known}
 use Rattle.px_real_program.specs.declared.known.KnownRun.{KnownRun}
 use Rattle.px_real_program.specs.declared.carrying.Carried.{Carried}
 use Rattle.px_real_program.specs.declared.carrying.Called.{Called}
 use Rattle.px_real_program.specs.declared.carrying.FileRun.{FileRun}
 use Rattle.px_real_program.specs.declared.carrying.External.{External}
-use Rattle.px_real_program.specs.declared.program.LeftItem.{LeftItem}
-use Rattle.px_real_program.specs.declared.program.Named.{Named}
+use Rattle.px_real_program.specs.declared.left.LeftItem.{LeftItem}
+use Rattle.px_real_program.specs.declared.naming.Named.{Named}
 use Rattle.px_real_program.specs.declared.sights.Sights.{Sights}
 use Rattle.px_real_program.specs.declared.seen.SeenStructs.{SeenStructs}
 use Rattle.px_real_program.specs.declared.types.NamedTypes.{NamedTypes}
@@ -59,9 +60,10 @@ use Rattle.px_real_program.specs.Files.{texts_of}
 use Rattle.px_real_program.specs.Looks.{DefinedTree, LookTree}
 use Rattle.px_real_program.specs.Structs.{Key, by_tag, by_typedef, by_place, same_key, is_number, file_number, in_run, FieldTree, StructTree, structs_in, says_braces}
 use Rattle.px_real_program.specs.Hidden.{definitions_of, is_shared}
+use Rattle.px_real_program.specs.Renumbering.{Renumbering, new_block, new_expression}
 use Rattle.px_real_program.specs.Numbers.{KnownFile as KnownTree, structs_of_each, all_links, Place, same_place, is_kept_at, NumbersTree, id}
 use Rattle.px_real_program.specs.Sights.{Sight, a_block, in_expression, in_condition, function_seen, block_seen, word_seen}
-use Rattle.px_real_program.specs.Programs.{LeftTree, struct_count, says_fields, seen_structs, known_structs}
+use Rattle.px_real_program.specs.Programs.{LeftTree, struct_count, text_at, says_fields, seen_structs, known_structs}
 use Rattle.px_real_program.specs.Views.{file_view, defined_view, look_view, numbers_view}
 
 -- ---- keys, as they are found word by word
@@ -265,6 +267,36 @@ pub record AreNumbers (fs : List KnownTree) (m : NumbersTree) (s : Numbers) : Ty
   pub unknown : IsNumbered (length m.kept + length m.out) m.unknown s.unknown
   pub types : AreTypesNumbered m.types s.types
   pub words : IsNumbered 0 m.words s.words
+
+-- ---- other numbers
+
+-- the texts that there may be, the words and names in order
+abbrev pub texts_seen : Narrowing → List (List ℕ)
+texts_seen s = map (λ w. w.now) s.texts.now.keys
+
+-- a name that is left out, and one that no file defines
+abbrev pub out_seen_at : Narrowing → ℕ → Option (List ℕ)
+out_seen_at s n = if nat_lt n s.kept then None else slice_get (texts_seen s) (n - s.kept)
+
+abbrev pub unknown_seen_at : Narrowing → ℕ → Option (List ℕ)
+unknown_seen_at s n = if nat_lt n (s.kept + length (texts_seen s)) then None else slice_get (texts_seen s) (n - (s.kept + length (texts_seen s)))
+
+abbrev pub renumbering : Narrowing → Renumbering
+renumbering s = record {
+  function = λ n. or_else (out_seen_at s n) (id_of s.numbers.now.out) (or_else (unknown_seen_at s n) (id_of s.numbers.now.unknown) n);
+  block = λ n. id_of_code s.numbers.now.types (if nat_lt n s.types then n else 0);
+  word = λ n. id_of s.numbers.now.words (text_at (texts_seen s) n);
+}
+
+-- the links of chains
+abbrev pub new_link : Renumbering → ArithmeticLinkTree → ArithmeticLinkTree
+new_link r l = record l { operand = new_expression r l.operand }
+
+abbrev pub new_relation : Renumbering → RelationLinkTree → RelationLinkTree
+new_relation r l = record l { operand = new_expression r l.operand }
+
+abbrev pub new_cell : Renumbering → CellLink → CellLink
+new_cell r l = record l { block = new_block r l.block }
 
 -- ---- types
 

@@ -1,7 +1,6 @@
 -- What the code has, as plain data.
 use Rattle.std.specs.Prelude.{ℕ, List, [], ◌∷◌, map, Option, Some, None, option_map, Vec}
 use Rattle.std.specs.declared.alloc.Global.{Global}
-use Rattle.px_syntax.specs.ProgramTree.{program_tree}
 use Rattle.px_real_expressions.specs.Lexemes.{Lexeme}
 use Rattle.px_real_symbols.specs.Symbols.{lexemes}
 use Rattle.px_real_blocks.specs.Parts.{no_types}
@@ -14,10 +13,8 @@ use Rattle.px_real_program.specs.declared.looking.Defined.{Defined}
 use Rattle.px_real_program.specs.declared.looking.Stepped.{Stepped}
 use Rattle.px_real_program.specs.declared.looking.Braces.{Braces}
 use Rattle.px_real_program.specs.declared.looking.Look.{Look}
-use Rattle.px_real_program.specs.declared.program.RealProgram.{RealProgram}
 use Rattle.px_real_program.specs.Files.{FileTree, file_of, texts_of}
 use Rattle.px_real_program.specs.Looks.{DefinedTree, Step, BracesTree, LookTree}
-use Rattle.px_real_program.specs.Programs.{RunTree}
 
 -- the tokens of a file
 abbrev pub real_tokens : RealFile → List Lexeme
@@ -41,9 +38,6 @@ braces_view b = record { number = b.number; texts = texts_of (texts b.held) }
 
 abbrev pub look_view : Look → LookTree
 look_view l = record { defined = map defined_view l.defined.items; braces = map braces_view l.braces.items; after = l.after }
-
-abbrev pub run_view : RealProgram → RunTree
-run_view r = record { program = program_tree r.program; several = r.several }
 
 abbrev pub numbers_view : List (Vec ℕ Global) → List (List ℕ)
 numbers_view vs = map (λ v. v.items) vs

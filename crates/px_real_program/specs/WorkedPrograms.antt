@@ -7,7 +7,7 @@ use Rattle.px_terms.specs.declared.types.ValueType.TheVariants as V
 use Rattle.px_terms.specs.declared.types.BlockType.{BlockType}
 use Rattle.px_terms.specs.declared.types.BlockType.TheVariants as K
 use Rattle.px_syntax.specs.declared.program.Left.{Left}
-use Rattle.px_syntax.specs.ProgramTree.{ProcedureTree}
+use Rattle.px_syntax.specs.ProgramTree.{ProcedureTree, ProgramTree}
 use Rattle.px_expressions.specs.Reading.{or_else}
 use Rattle.px_real_expressions.specs.declared.terminal.Terminal.TheVariants as T
 use Rattle.px_real_expressions.specs.Lexemes.{Lexeme, front}
@@ -26,7 +26,7 @@ use Rattle.px_real_functions.specs.WorkedFunctions.{lexed}
 use Rattle.px_real_program.specs.Files.{PieceTree, FileTree}
 use Rattle.px_real_program.specs.Looks.{step, no_run}
 use Rattle.px_real_program.specs.Sights.{in_procedure, function_seen}
-use Rattle.px_real_program.specs.Programs.{RunTree, program_of}
+use Rattle.px_real_program.specs.Programs.{program_of}
 
 -- ---- files of texts
 
@@ -81,7 +81,7 @@ pub record Shown : Type 0 where
   pub types : List BlockType
   pub words : List (List ℕ)
   pub left : List ShownLeft
-  pub several : List ℕ
+  pub out : List ℕ
 
 abbrev pub shown_procedure : ProcedureTree → ShownProcedure
 shown_procedure p = record { proc = p.proc.0; parameters = p.parameters; result = p.result; calls = filter_map function_seen (in_procedure p) }
@@ -89,14 +89,14 @@ shown_procedure p = record { proc = p.proc.0; parameters = p.parameters; result 
 abbrev pub shown_left : Left → ShownLeft
 shown_left x = record { proc = option_map (λ (p : ProcId). p.0) x.proc; line = x.site.line; word = x.word }
 
-abbrev pub shown : RunTree → Shown
-shown r = record {
-  names = r.program.names;
-  procedures = map shown_procedure r.program.procedures;
-  types = r.program.types;
-  words = r.program.words;
-  left = map shown_left r.program.left;
-  several = map (λ (p : ProcId). p.0) r.several;
+abbrev pub shown : ProgramTree → Shown
+shown p = record {
+  names = p.names;
+  procedures = map shown_procedure p.procedures;
+  types = p.types;
+  words = p.words;
+  left = map shown_left p.left;
+  out = map (λ (q : ProcId). q.0) p.out;
 }
 
 abbrev pub Says : List (List (List ℕ)) → Shown → Type 0
@@ -122,7 +122,7 @@ left_at proc line word = record { proc = proc; line = line; word = word }
 
 -- nothing but functions: int is the one type, no word is seen and nothing is left out
 abbrev pub functions : List (List ℕ) → List ShownProcedure → Shown
-functions names ps = record { names = names; procedures = ps; types = an_int ∷ []; words = []; left = []; several = [] }
+functions names ps = record { names = names; procedures = ps; types = an_int ∷ []; words = []; left = []; out = [] }
 
 abbrev pub g_is_1 : List ℕ
 g_is_1 = codes "int g ( void ) { return 1 ; }"
@@ -139,7 +139,7 @@ pub record Links : Type 0 where
       (functions (codes "g" ∷ codes "a" ∷ codes "g" ∷ codes "b" ∷ []) (gives 0 [] ∷ gives 1 (0 ∷ []) ∷ gives 2 [] ∷ gives 3 (2 ∷ []) ∷ []))
   -- where two files define the name, a third's call is one of a callee that is left out
   pub two_programs : Says ((g_is_1 ∷ []) ∷ (g_is_1 ∷ codes "int b ( void ) { return g ( ) ; }" ∷ []) ∷ (g_is_declared ∷ codes "int c ( void ) { return g ( ) ; }" ∷ []) ∷ [])
-      (record (functions (codes "g" ∷ codes "g" ∷ codes "b" ∷ codes "c" ∷ codes "g" ∷ []) (gives 0 [] ∷ gives 1 [] ∷ gives 2 (1 ∷ []) ∷ gives 3 (4 ∷ []) ∷ [])) { several = 4 ∷ [] })
+      (record (functions (codes "g" ∷ codes "g" ∷ codes "b" ∷ codes "c" ∷ codes "g" ∷ []) (gives 0 [] ∷ gives 1 [] ∷ gives 2 (1 ∷ []) ∷ gives 3 (4 ∷ []) ∷ [])) { out = 4 ∷ [] })
   pub another_file : Says ((getchar_is_declared ∷ codes "int g ( int x ) ;" ∷ codes "int a ( void ) { return g ( getchar ( ) ) ; }" ∷ []) ∷ (codes "int g ( char c ) { return 1 ; }" ∷ []) ∷ [])
       (functions (codes "a" ∷ codes "g" ∷ []) (gives 0 (1 ∷ []) ∷ gives 1 [] ∷ []))
   pub static_and_external : Says ((codes "static int g ( void ) { return 1 ; }" ∷ codes "int a ( void ) { return g ( ) ; }" ∷ []) ∷ (g_is_1 ∷ []) ∷ (g_is_declared ∷ codes "int c ( void ) { return g ( ) ; }" ∷ []) ∷ [])
@@ -162,7 +162,7 @@ pub record LeftOut : Type 0 where
       (record (functions (codes "h" ∷ codes "f" ∷ codes "g" ∷ []) (gives 0 [] ∷ gives 1 (2 ∷ []) ∷ [])) { left = left_at (Some 2) 2 (codes "weak") ∷ [] })
   -- a name that a file makes weak is none of another file's there
   pub weak_here : Says ((g_is_1 ∷ []) ∷ (codes "int g ( void ) __attribute__ ( ( weak ) ) ;" ∷ codes "int f ( void ) { return g ( ) ; }" ∷ []) ∷ [])
-      (record (functions (codes "g" ∷ codes "f" ∷ codes "g" ∷ []) (gives 0 [] ∷ gives 1 (2 ∷ []) ∷ [])) { several = 2 ∷ [] })
+      (record (functions (codes "g" ∷ codes "f" ∷ codes "g" ∷ []) (gives 0 [] ∷ gives 1 (2 ∷ []) ∷ [])) { out = 2 ∷ [] })
   pub duplicate : Says ((g_is_1 ∷ g_is_1 ∷ []) ∷ []) (record (functions (codes "g" ∷ []) (gives 0 [] ∷ [])) { left = left_at (Some 0) 2 (codes "duplicate") ∷ [] })
   pub parameters : Says ((codes "int f ( int a , int b , int c , int d , int e , int g , int h , int i , int j , int k , int l , int m , int n , int o , int p , int q , int r ) { return 1 ; }" ∷ []) ∷ [])
       (record (functions (codes "f" ∷ []) []) { left = left_at (Some 0) 1 (codes "parameters") ∷ [] })

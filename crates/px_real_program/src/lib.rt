@@ -3,6 +3,7 @@
 #![tactic(auto)]
 
 mod asked;
+mod assembling;
 mod carrying;
 mod fields;
 mod file;
@@ -10,12 +11,17 @@ mod hidden;
 mod keys;
 mod known;
 mod laws;
+mod left;
 mod linking;
 mod looking;
 mod named;
+mod naming;
+mod narrowing;
+mod numbering;
 mod numbers;
 mod procedures;
 mod program;
+mod renumbering;
 mod seen;
 mod sights;
 mod types;
@@ -23,4 +29,4 @@ mod weak;
 
 pub use file::RealFile;
 pub use laws::worked_programs;
-pub use program::{RealProgram, program};
+pub use program::program;

@@ -98,8 +98,8 @@ pub enum TypeIds {
 }
 
 impl TypeIds {
-    // The number of what has this code.
-    fn of_code(&self, code: u32) -> u32
+    /// The number of what has this code. Takes no memory.
+    pub fn of_code(&self, code: u32) -> u32
         ensures { result ≡ id_of_code self.now code }
     {
         match self {

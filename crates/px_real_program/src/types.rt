@@ -120,8 +120,8 @@ fn struct_in(kind: ProfileType) -> Option<u32>
     }
 }
 
-// How many types there may be.
-fn most_types(run: &KnownRun) -> Result<u32, NoMemory>
+/// How many types there may be.
+pub fn most_types(run: &KnownRun) -> Result<u32, NoMemory>
     ensures { IfOk result (λ n. n ≡ (run.now.count + 1) * 3) }
 {
     let count = as_number(run.count)?;

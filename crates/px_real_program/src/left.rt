@@ -1,0 +1,102 @@
+ghost use Rattle.std.specs.Prelude.{◌≡◌, List, map, option_map, IfOk};
+ghost use Rattle.px_real_links.specs.declared.callee.Callee.TheVariants as Called;
+ghost use Rattle.px_real_program.specs.Numbers.{KnownFile as KnownTree, NumbersTree, called};
+ghost use Rattle.px_real_program.specs.Programs as Rules;
+ghost use Rattle.px_real_program.specs.Steps.{AreKnown, IsWhole, AreNumbers, left_view};
+
+use crate::asked::Reason;
+use crate::known::KnownRun;
+use crate::looking::Defined;
+use crate::numbers::Numbers;
+use indexmap::IndexSet;
+use px_base::ProcId;
+use px_real_links::{Callee, callee_of};
+use px_syntax::{Left, Name};
+use px_terms::NoMemory;
+use std::alloc::Global;
+
+/// An item that is left out.
+#[derive(Clone, Copy)]
+pub struct LeftItem<'b> {
+    pub file: usize,
+    pub defined: &'b Defined<'b>,
+    pub reason: Reason,
+}
+
+/// The items that are left out, in order.
+pub fn left_items<'b>(alloc: Global, run: &'b KnownRun<'b>) -> Result<Vec<LeftItem<'b>>, NoMemory>
+    requires { IsWhole run.entry.now }
+    ensures { (fs : List KnownTree) → AreKnown fs run.entry.now → IfOk result (λ v. map left_view v.items ≡ Rules.left_in 0 fs) }
+{
+    let mut all = Vec::new(alloc);
+    for file in 0..run.files.len() {
+        let left = &run.kept[file].left;
+        for number in 0..left.len() {
+            if let Some(reason) = left[number] {
+                let defined = &run.looks[file].defined[number];
+                all.push(LeftItem {
+                    file,
+                    defined,
+                    reason,
+                })?;
+            }
+        }
+    }
+    Ok(all)
+}
+
+// The kept function of a name in a file, if that has one.
+fn kept_there(run: &KnownRun, file: usize, name: &[u8]) -> Option<(usize, usize)>
+    ensures { (fs : List KnownTree) → AreKnown fs run.now → option_map (λ x. Called.Function x.0 x.1) result ≡ Rules.if_function (called fs file name.now) }
+{
+    match callee_of(&run.links, file, name) {
+        Callee::Function { file, number } if run.is_kept(file, number) => Some((file, number)),
+        _ => None,
+    }
+}
+
+/// The names of the items that are left out, but those that their files keep.
+pub fn out_names<'b>(
+    alloc: Global,
+    run: &KnownRun,
+    left: &[LeftItem<'b>],
+) -> Result<IndexSet<&'b [u8]>, NoMemory>
+    ensures { (fs : List KnownTree) → AreKnown fs run.now → map left_view left.now ≡ Rules.left_in 0 fs → IfOk result (λ s. map (λ w. w.now) s.keys ≡ Rules.out_names fs) }
+{
+    let mut names = IndexSet::new(alloc);
+    for item in left {
+        if let Some(name) = &item.defined.name {
+            let word = name.as_slice();
+            if kept_there(run, item.file, word).is_none() {
+                names.insert(word)?;
+            }
+        }
+    }
+    Ok(names)
+}
+
+/// An item that is left out, with its number.
+pub fn left_of(
+    alloc: Global,
+    run: &KnownRun,
+    numbers: &Numbers,
+    item: &LeftItem,
+) -> Result<Left, NoMemory>
+    ensures { (fs : List KnownTree) (m : NumbersTree) → AreKnown fs run.now → AreNumbers fs m numbers.now → IfOk result (λ l. l ≡ Rules.left_of fs m (left_view item.now)) }
+{
+    let proc = match &item.defined.name {
+        Some(name) => {
+            let word = name.as_slice();
+            match kept_there(run, item.file, word) {
+                Some((file, number)) => numbers.kept_id(file, number),
+                None => Some(ProcId(numbers.out.number(word))),
+            }
+        }
+        None => None,
+    };
+    Ok(Left {
+        proc,
+        site: item.defined.site,
+        word: Name::from_slice(alloc, item.reason.word())?,
+    })
+}
