@@ -5,7 +5,7 @@ none of their answers is taken from the program.
   scripts/tests/real.py                    tries the proved program, where there is one of today's sources; else a checked one
   scripts/tests/real.py PROGRAM [WORD..]   tries this one, on the cases that have one of the words alone
 
-A case is some lines of C that begin at the margin, and below them indented lines that say what the report is. `#` begins a remark, and a
+A case is some lines of C that begin at the margin, and below them indented lines that say what the report is. `%` begins a remark, and a
 paragraph ends with a case. A file NAME.bodies has bodies: of each a function f is made, behind the declarations in declared.h and the
 case's own lines that begin with `+`. The function has `int *z = 0;` before the body, and an access through z behind it. NAME.files has files as they
 are, `a.c`, then `b.c` and so on behind lines `==`; `+declared` as first line stands for the declarations.
@@ -154,9 +154,9 @@ def cases_of(name):
             if line.startswith("    "):
                 said.append(line.strip())
                 continue
-            if said or line.startswith("# ") or not line:
+            if said or line.startswith("% ") or not line:
                 end()
-            if line and not line.startswith("# "):
+            if line and not line.startswith("% "):
                 first = first if code else number
                 code.append(line)
     end()
