@@ -1,5 +1,5 @@
 -- What the code comes to, step by step.
-use Rattle.std.specs.Prelude.{◌≡◌, ℕ, ◌+◌, ◌*◌, ◌<◌, List, [], ◌∷◌, map, flat_map, filter_map, ◌++◌, length, slice_get, not, ◌&&◌, ◌||◌, Bool, false, Option, Some, None, is_some, is_none, option_map, unwrap_or, IfSome, codes, nat_eq, nat_lt, ◌-◌, ⊤, ⊥, Vec, if◌then◌else◌}
+use Rattle.std.specs.Prelude.{◌≡◌, ℕ, suc, ◌+◌, ◌*◌, ◌<◌, List, [], ◌∷◌, map, flat_map, filter_map, ◌++◌, length, slice_get, not, ◌&&◌, ◌||◌, Bool, false, Option, Some, None, is_some, is_none, option_map, unwrap_or, IfSome, codes, nat_eq, nat_lt, ◌-◌, ⊤, ⊥, Vec, if◌then◌else◌}
 use Rattle.std.specs.declared.alloc.Global.{Global}
 use Rattle.std.specs.Str.{bytes_eq}
 use Rattle.std.specs.Map.{lookup}
@@ -55,7 +55,7 @@ use Rattle.px_real_program.specs.declared.seen.SeenStructs.{SeenStructs}
 use Rattle.px_real_program.specs.declared.types.NamedTypes.{NamedTypes}
 use Rattle.px_real_links.specs.declared.definition.FileLinks.{FileLinks}
 use Rattle.px_real_program.specs.declared.looking.Look.{Look}
-use Rattle.px_real_program.specs.Keeping.{AskedTree, all_asked, names_in}
+use Rattle.px_real_program.specs.Keeping.{AskedTree, all_asked, names_in, name_or_none}
 use Rattle.px_real_program.specs.Files.{texts_of}
 use Rattle.px_real_program.specs.Looks.{DefinedTree, LookTree}
 use Rattle.px_real_program.specs.Structs.{Key, by_tag, by_typedef, by_place, same_key, is_number, file_number, in_run, FieldTree, StructTree, structs_in, says_braces}
@@ -242,6 +242,21 @@ id_of_code (I.Named ids) n = unwrap_or (lookup (nat_eq n) ids.entries) 0
 
 abbrev pub type_id_of : TypeIds → ProfileType → ℕ
 type_id_of s t = or_else (coded t) (id_of_code s) 0
+
+-- how many are flagged
+abbrev pub true_count : List Bool → ℕ
+true_count [] = 0
+true_count (b ∷ bs) = if b then suc (true_count bs) else true_count bs
+
+-- the numbers of those that are flagged, from this one on
+abbrev pub numbers_from : ℕ → List Bool → List (Option ℕ)
+numbers_from n [] = []
+numbers_from n (b ∷ bs) = if b then Some n ∷ numbers_from (n + 1) bs else None ∷ numbers_from n bs
+
+-- the names of those that are flagged
+abbrev pub names_kept : List Bool → List DefinedTree → List (List ℕ)
+names_kept (b ∷ bs) (d ∷ ds) = if b then name_or_none d.name ∷ names_kept bs ds else names_kept bs ds
+names_kept _ _ = []
 
 -- that of a kept function, by its file and its number there
 abbrev pub kept_in : List (Vec (Option ℕ) Global) → ℕ → ℕ → Option ℕ
