@@ -5,7 +5,6 @@ use Rattle.std.specs.Str.{bytes_eq}
 use Rattle.std.proofs.lemmas.List.{length-append}
 use Rattle.std.proofs.lemmas.Option.{slice_get_past}
 use Rattle.std.proofs.lemmas.Bool.{ltb-true, ltb-false, lt-ltb}
-use Rattle.core.proofs.iter.runs.Lists.{nth_left, nth_right}
 use Rattle.px_base.specs.declared.trace.ProcId.{ProcId}
 use Rattle.px_expressions.specs.Reading.{or_else}
 use Rattle.px_typing.specs.Sights.{number_in}
@@ -22,6 +21,15 @@ use Rattle.px_real_program.specs.Steps.{AreNumbers, AreTypesNumbered, code_of, c
 or_same : {A B : Type 0} (o : Option A) (f g : A → B) (a b : B) → ((x : A) → f x ≡ g x) → a ≡ b → or_else o f a ≡ or_else o g b
 or_same None f g a b h e = e
 or_same (Some x) f g a b h e = h x
+
+nth_left : {A : Type 0} (xs ys : List A) (k : ℕ) → k < length xs → slice_get (xs ++ ys) k ≡ slice_get xs k
+nth_left [] ys k l = absurd (omega (arith, l))
+nth_left (x ∷ xs) ys zero l = refl
+nth_left (x ∷ xs) ys (suc k) l = nth_left xs ys k (omega (arith, l))
+
+nth_right : {A : Type 0} (xs ys : List A) (k : ℕ) → slice_get (xs ++ ys) (length xs + k) ≡ slice_get ys k
+nth_right [] ys k = let e : 0 + k ≡ k = omega arith in ap (slice_get ys) e
+nth_right (x ∷ xs) ys k = let e : length (x ∷ xs) + k ≡ suc (length xs + k) = omega arith in ap (slice_get (x ∷ (xs ++ ys))) e ∙ nth_right xs ys k
 
 -- ---- each type stands at its code
 
