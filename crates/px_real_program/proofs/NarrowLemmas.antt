@@ -4,7 +4,7 @@ use Rattle.std.specs.Prelude.{if◌then◌else◌}
 use Rattle.std.specs.Str.{bytes_eq}
 use Rattle.std.proofs.lemmas.List.{length-append}
 use Rattle.std.proofs.lemmas.Option.{slice_get_past}
-use Rattle.std.proofs.lemmas.Bool.{ltb-true, ltb-false, lt-ltb}
+use Rattle.std.proofs.lemmas.Bool.{ltb-true, ltb-false, lt-ltb, le-ltb}
 use Rattle.px_base.specs.declared.trace.ProcId.{ProcId}
 use Rattle.px_expressions.specs.Reading.{or_else}
 use Rattle.px_typing.specs.Sights.{number_in}
@@ -16,7 +16,7 @@ use Rattle.px_real_program.specs.declared.narrowing.Narrowing.{Narrowing}
 use Rattle.px_real_program.specs.Renumbering.{Renumbering}
 use Rattle.px_real_program.specs.Numbers.{KnownFile, NumbersTree, kept_places, out_id, unknown_id}
 use Rattle.px_real_program.specs.Programs.{all_texts, with_stars, all_structs, struct_count, all_numbers, text_at, type_at, out_at, unknown_at, own_function, narrowing}
-use Rattle.px_real_program.specs.Steps.{AreNumbers, AreTypesNumbered, code_of, coded, id_of, id_of_code, type_id_of, texts_seen, out_seen_at, unknown_seen_at, renumbering}
+use Rattle.px_real_program.specs.Steps.{AreNumbers, AreTypesNumbered, code_of, coded, id_of, id_of_code, type_id_of, texts_seen, numbered_text, out_seen_at, unknown_seen_at, renumbering}
 
 or_same : {A B : Type 0} (o : Option A) (f g : A → B) (a b : B) → ((x : A) → f x ≡ g x) → a ≡ b → or_else o f a ≡ or_else o g b
 or_same None f g a b h e = e
@@ -84,6 +84,9 @@ type_past count n l =
 
 -- ---- the code's narrowing
 
+pub from_first : (ts : List (List ℕ)) (n : ℕ) → numbered_text 0 ts n ≡ slice_get ts n
+from_first ts n = ap (λ b. if b then None else slice_get ts (n - 0)) (le-ltb n 0 (omega arith)) ∙ ap (slice_get ts) (let e : n - 0 ≡ n = omega arith in e)
+
 module _ (files : List FileTree) (fs : List KnownFile) (own : NumbersTree) (s : Narrowing) (numbers : AreNumbers fs own s.numbers.now) (kept_are : own.kept ≡ kept_places 0 fs)
   (kept : s.kept ≡ length (kept_places 0 fs)) (types : s.types ≡ (struct_count fs + 1) * 3) (few : s.types < 4294967296) (texts : texts_seen s ≡ all_texts files) where
   abbrev all : NumbersTree
@@ -119,7 +122,7 @@ module _ (files : List FileTree) (fs : List KnownFile) (own : NumbersTree) (s : 
           block_of_code int 0 (coded_is int 0 (omega arith) (omega arith) (omega arith)) ∙ ap (number_in same_type own.types) (sym (type_past (struct_count fs) n (omega (arith, l, types))))
 
   word_same : (n : ℕ) → (renumbering s).word n ≡ (narrowing all own).word n
-  word_same n = ap (λ ts. id_of s.numbers.now.words (text_at ts n)) texts ∙ (let e = numbers.words.numbers (text_at (all_texts files) n) in omega (arith, e))
+  word_same n = ap (λ ts. id_of s.numbers.now.words (or_else (numbered_text 0 ts n) (λ text. text) [])) texts ∙ ap (λ o. id_of s.numbers.now.words (or_else o (λ text. text) [])) (from_first (all_texts files) n) ∙ (let e = numbers.words.numbers (text_at (all_texts files) n) in omega (arith, e))
 
   pub narrowed_so : renumbering s ≡ narrowing all own
   narrowed_so = λ k. record { function = λ n. function_same n k; block = λ n. block_same n k; word = λ n. word_same n k }

@@ -63,7 +63,7 @@ use Rattle.px_real_program.specs.Hidden.{definitions_of, is_shared}
 use Rattle.px_real_program.specs.Renumbering.{Renumbering, new_block, new_expression}
 use Rattle.px_real_program.specs.Numbers.{KnownFile as KnownTree, structs_of_each, all_links, Place, same_place, is_kept_at, NumbersTree, id}
 use Rattle.px_real_program.specs.Sights.{Sight, a_block, in_expression, in_condition, function_seen, block_seen, word_seen}
-use Rattle.px_real_program.specs.Programs.{LeftTree, struct_count, text_at, says_fields, seen_structs, known_structs}
+use Rattle.px_real_program.specs.Programs.{LeftTree, struct_count, says_fields, seen_structs, known_structs}
 use Rattle.px_real_program.specs.Views.{file_view, defined_view, look_view, numbers_view}
 
 -- ---- keys, as they are found word by word
@@ -289,18 +289,22 @@ pub record AreNumbers (fs : List KnownTree) (m : NumbersTree) (s : Numbers) : Ty
 abbrev pub texts_seen : Narrowing → List (List ℕ)
 texts_seen s = map (λ w. w.now) s.texts.now.keys
 
+-- the text with this number, where the first has that one
+abbrev pub numbered_text : ℕ → List (List ℕ) → ℕ → Option (List ℕ)
+numbered_text first ts n = if nat_lt n first then None else slice_get ts (n - first)
+
 -- a name that is left out, and one that no file defines
 abbrev pub out_seen_at : Narrowing → ℕ → Option (List ℕ)
-out_seen_at s n = if nat_lt n s.kept then None else slice_get (texts_seen s) (n - s.kept)
+out_seen_at s = numbered_text s.kept (texts_seen s)
 
 abbrev pub unknown_seen_at : Narrowing → ℕ → Option (List ℕ)
-unknown_seen_at s n = if nat_lt n (s.kept + length (texts_seen s)) then None else slice_get (texts_seen s) (n - (s.kept + length (texts_seen s)))
+unknown_seen_at s = numbered_text (s.kept + length (texts_seen s)) (texts_seen s)
 
 abbrev pub renumbering : Narrowing → Renumbering
 renumbering s = record {
   function = λ n. or_else (out_seen_at s n) (id_of s.numbers.now.out) (or_else (unknown_seen_at s n) (id_of s.numbers.now.unknown) n);
   block = λ n. id_of_code s.numbers.now.types (if nat_lt n s.types then n else 0);
-  word = λ n. id_of s.numbers.now.words (text_at (texts_seen s) n);
+  word = λ n. id_of s.numbers.now.words (or_else (numbered_text 0 (texts_seen s) n) (λ text. text) []);
 }
 
 -- the links of chains
