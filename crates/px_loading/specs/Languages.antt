@@ -37,4 +37,4 @@ HasFaultIn L.Real number source (F.Profile fault) = ⊥
 -- the program of files
 abbrev pub said : (l : Language) → List (FileIn l) → ProgramTree
 said L.Profile files = typing.program_of files
-said L.Real files = (real_program.program_of files).program
+said L.Real files = real_program.program_of files

@@ -15,7 +15,7 @@ use crate::inputs::read_all;
 use crate::language::Language;
 use crate::sources::{read_real_sources, read_sources};
 use px_io::Files;
-use px_real_program::{RealProgram, program as real_program};
+use px_real_program::program as real_program;
 use px_syntax::Program;
 use px_typing::{ProgramFault, program};
 use std::alloc::Global;
@@ -108,10 +108,7 @@ fn real_program_of<'a>(
 {
     let files = read_real_sources(alloc, names, sources)?;
     match real_program(alloc, &files) {
-        Ok(run) => {
-            let RealProgram { program, .. } = run;
-            Ok(program)
-        }
+        Ok(program) => Ok(program),
         Err(ProgramFault::Procedures(_)) => Err(LoadFault::Many),
         Err(ProgramFault::NoMemory) => Err(LoadFault::NoMemory),
     }

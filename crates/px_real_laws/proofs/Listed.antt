@@ -1,5 +1,5 @@
--- The block types of a program of real C lead to listed ones; and its procedures name listed ones alone, if they are those in all numbers,
--- with other numbers.
+-- The block types of a program of real C lead to listed ones; and its procedures name listed ones alone, if in the numbers of all that there may
+-- be they name what there is.
 use Rattle.std.proofs.Common.{arith, ◌≡◌, ◌∙◌, ◌<◌, ◌+◌, ℕ, zero, suc, Bool, true, false, cond, List, [], ◌∷◌, ◌++◌, map, flat_map, length, unwrap_or, Option, Some, None, refl, sym, ap, ap₂, subst}
 use Rattle.std.specs.List.{AllByRecursion, position_from}
 use Rattle.std.proofs.lemmas.Iterator.Adapters.{position_from-zero}
@@ -16,10 +16,10 @@ use Rattle.px_real_types.specs.Types.{int, same_type, pointee, number_of}
 use Rattle.px_real_program.specs.Files.{FileTree}
 use Rattle.px_real_program.specs.Sights.{in_procedure}
 use Rattle.px_real_program.specs.Numbers.{KnownFile, NumbersTree, known_files}
-use Rattle.px_real_program.specs.Programs.{procedures, all_numbers, numbers_of, kept_name, pointing, value_in, cells_at, struct_block, block_in, program_of}
+use Rattle.px_real_program.specs.Programs.{procedures, all_numbers, numbers_of, narrowing, own_procedures, kept_name, pointing, value_in, cells_at, struct_block, block_in, program_of}
 use Rattle.px_real_laws.specs.Laws.{said}
 use Rattle.px_real_program.specs.Renumbering.{Renumbering, new_procedure}
-use Rattle.px_real_laws.specs.Narrowing.{narrowing, IsNarrowed, IsWithinBefore}
+use Rattle.px_real_laws.specs.Narrowing.{IsWithinBefore}
 use Rattle.px_real_laws.proofs.RenumberedListed.{IsNew, procedure_listed}
 use Rattle.px_real_laws.proofs.Narrowed.{int_named, all_new}
 
@@ -104,11 +104,11 @@ module _ (files : List FileTree) where
   unfolding program_of
   blocks_listed = subst (λ n. AllByRecursion (IsBlockListed n) (map (block_in fs own) own.types)) (sym types_are) (blocks_within fs own some_type own.types)
 
-  pub procedures_listed : IsNarrowed files → IsWithinBefore files → AllByRecursion (IsProcedureListed (length (said files).names) (length (said files).types)) (said files).procedures
+  pub procedures_listed : IsWithinBefore files → AllByRecursion (IsProcedureListed (length (said files).names) (length (said files).types)) (said files).procedures
   unfolding program_of
-  procedures_listed same within =
+  procedures_listed within =
       let r = narrowing all own in
       let names = length own.kept + (length own.out + length own.unknown) in
       let new = listed_each r names (length own.types) (procedures fs all) (all_new fs all (flat_map in_procedure (procedures fs all)) within) in
-      subst (λ n. AllByRecursion (IsProcedureListed n (length (map (block_in fs own) own.types))) (procedures fs own)) (sym names_are)
-      (subst (λ n. AllByRecursion (IsProcedureListed names n) (procedures fs own)) (sym types_are) (subst (AllByRecursion (IsProcedureListed names (length own.types))) (sym same) new))
+      subst (λ n. AllByRecursion (IsProcedureListed n (length (map (block_in fs own) own.types))) (own_procedures files fs)) (sym names_are)
+      (subst (λ n. AllByRecursion (IsProcedureListed names n) (own_procedures files fs)) (sym types_are) new)

@@ -18,8 +18,8 @@ use Rattle.px_real_types.specs.declared.shape.ProfileType.{ProfileType}
 use Rattle.px_real_types.specs.Types.{int, same_base, same_type}
 use Rattle.px_real_program.specs.Sights.{Sight, a_function, a_block, a_word, function_seen, block_seen, word_seen}
 use Rattle.px_real_program.specs.Numbers.{KnownFile, NumbersTree, out_id, unknown_id}
-use Rattle.px_real_program.specs.Programs.{struct_count, up_to, with_bases, behind_block, reached, types_named, words_named, out_at, unknown_at, names_called, out_names, narrowed}
-use Rattle.px_real_laws.specs.Narrowing.{text_at, type_at, own_function, narrowing, IsWithin}
+use Rattle.px_real_program.specs.Programs.{struct_count, up_to, with_bases, behind_block, reached, types_named, words_named, out_at, unknown_at, names_called, out_names, narrowed, text_at, type_at, own_function, narrowing}
+use Rattle.px_real_laws.specs.Narrowing.{IsWithin}
 use Rattle.px_real_laws.proofs.RenumberedListed.{IsNew}
 
 -- ---- types are the same where they look so

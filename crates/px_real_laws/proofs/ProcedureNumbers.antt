@@ -18,7 +18,8 @@ use Rattle.px_real_functions.specs.Definitions.{MadeTree}
 use Rattle.px_real_program.specs.Files.{FileTree}
 use Rattle.px_real_program.specs.Looks.{DefinedTree, look}
 use Rattle.px_real_program.specs.Numbers.{KnownFile, known_each, second_looks, all_hidden, all_run_numbers, known_files, Place, same_place, kept_from, kept_places, NumbersTree, kept_id, seen_by}
-use Rattle.px_real_program.specs.Programs.{procedure_of, procedure_if, procedures_from, procedures_in, procedures_of_each, procedures, kept_name, numbers_of, program_of}
+use Rattle.px_real_program.specs.Programs.{procedure_of, procedure_if, procedures_from, procedures_in, procedures_of_each, procedures, kept_name, all_numbers, numbers_of, narrowing, own_procedures, program_of}
+use Rattle.px_real_program.specs.Renumbering.{Renumbering, new_value, new_procedure}
 use Rattle.px_real_laws.specs.Laws.{said}
 use Rattle.px_real_laws.proofs.KeptFunctions.{HasBody, BodiesFit, bodies_fit}
 
@@ -155,8 +156,12 @@ module _ (files : List FileTree) where
   abbrev fs : List KnownFile
   fs = known_files files
 
+  -- in the numbers of all that there may be
   abbrev m : NumbersTree
-  m = numbers_of files fs
+  m = all_numbers files fs
+
+  abbrev r : Renumbering
+  r = narrowing m (numbers_of files fs)
 
   all_fit : AllFit fs
   all_fit = known_fit files (all_hidden files) (all_run_numbers files (second_looks files (all_hidden files)))
@@ -181,17 +186,29 @@ module _ (files : List FileTree) where
   count_here : length (procedures fs m) ≡ length (kept_places 0 fs)
   count_here = sym (length-map (procedures fs m) proc_of) ∙ ap length procs_are ∙ length-map (kept_places 0 fs) (kept_id m)
 
+  -- by the program's own numbers
+  own_numbered : (n : ℕ) (p : ProcedureTree) → slice_get (own_procedures files fs) n ≡ Some p → p.proc.0 ≡ n
+  own_numbered n p at = by (slice_get (procedures fs m) n) refl (sym (slice_get-map (new_procedure r) (procedures fs m) n) ∙ at)
+    where
+      by : (o : Option ProcedureTree) → slice_get (procedures fs m) n ≡ o → option_map (new_procedure r) o ≡ Some p → p.proc.0 ≡ n
+      by None there e = absurd (none-some p e)
+      by (Some q) there e = sym (ap (λ (x : ProcedureTree). x.proc.0) (same_Some (new_procedure r q) p e)) ∙ numbered_here n q there
+
+  own_few : (ps : List ProcedureTree) → AllByRecursion IsFewOf ps → AllByRecursion IsFewOf (map (new_procedure r) ps)
+  own_few [] h = tt
+  own_few (p ∷ ps) h = (subst (λ n. n ≤ most_parameters) (sym (length-map p.parameters (new_value r))) h.0, own_few ps h.1)
+
   pub numbered : (n : ℕ) (p : ProcedureTree) → slice_get (said files).procedures n ≡ Some p → p.proc.0 ≡ n
   unfolding program_of
-  numbered = numbered_here
+  numbered = own_numbered
 
   pub few : AllByRecursion (λ (p : ProcedureTree). length p.parameters ≤ most_parameters) (said files).procedures
   unfolding program_of
-  few = few_here
+  few = own_few (procedures fs m) few_here
 
   pub all : length (said files).procedures ≡ length (kept_places 0 fs)
   unfolding program_of
-  all = count_here
+  all = length-map (procedures fs m) (new_procedure r) ∙ count_here
 
 pub names_first : (files : List FileTree) (n : ℕ) (name : List ℕ) → slice_get (map (kept_name (known_files files)) (kept_places 0 (known_files files))) n ≡ Some name → slice_get (said files).names n ≡ Some name
 unfolding program_of

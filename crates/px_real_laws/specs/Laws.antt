@@ -11,7 +11,7 @@ use Rattle.px_real_program.specs.Numbers.{known_files, kept_places}
 use Rattle.px_real_program.specs.Programs.{kept_name, program_of}
 
 abbrev pub said : List FileTree → ProgramTree
-said files = (program_of files).program
+said files = program_of files
 
 -- it is well-formed
 abbrev pub RealProgramsAreWellFormed : Type 0

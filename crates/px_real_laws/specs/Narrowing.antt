@@ -1,19 +1,13 @@
 -- The numbers of all that there may be, as those of what is named.
 use Rattle.std.specs.Prelude.{◌≡◌, ◌⊎◌, ℕ, ◌<◌, Bool, true, List, map, flat_map, length, slice_get, is_some}
-use Rattle.std.specs.Str.{bytes_eq}
 use Rattle.std.specs.List.{AllByRecursion}
 use Rattle.px_terms.specs.declared.types.BlockType.{BlockType}
 use Rattle.px_meaning.specs.TypedProgram.{TypedProgram}
 use Rattle.px_meaning.specs.TreeTypes.{KeepsTyping}
-use Rattle.px_expressions.specs.Reading.{or_else}
-use Rattle.px_typing.specs.Sights.{number_in}
-use Rattle.px_real_types.specs.declared.shape.ProfileType.{ProfileType}
-use Rattle.px_real_types.specs.Types.{int, same_type}
 use Rattle.px_real_program.specs.Files.{FileTree}
 use Rattle.px_real_program.specs.Sights.{Sight, a_function, a_block, a_word, in_procedure}
-use Rattle.px_real_program.specs.Numbers.{KnownFile, known_files, NumbersTree, out_id, unknown_id}
-use Rattle.px_real_program.specs.Programs.{procedures, all_numbers, block_in, out_at, unknown_at, numbers_of}
-use Rattle.px_real_program.specs.Renumbering.{Renumbering, new_procedure}
+use Rattle.px_real_program.specs.Numbers.{KnownFile, known_files, NumbersTree}
+use Rattle.px_real_program.specs.Programs.{procedures, all_numbers, block_in, out_at, unknown_at}
 
 -- a number of something that there is
 abbrev pub IsWithin : NumbersTree → Sight → Type 0
@@ -33,10 +27,6 @@ module _ (files : List FileTree) where
 
   abbrev all : NumbersTree
   all = all_numbers files fs
-
-  -- its procedures are those in all numbers, with other numbers
-  abbrev pub IsNarrowed : Type 0
-  IsNarrowed = procedures fs (numbers_of files fs) ≡ map (new_procedure (narrowing all (numbers_of files fs))) (procedures fs all)
 
   -- in all numbers they keep the typing rules, and each number is of something that there is
   abbrev pub KeepsTypingBefore : Type 0

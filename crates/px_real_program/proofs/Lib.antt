@@ -1,5 +1,14 @@
 pub mod CalleeLemmas
+pub mod HiddenLemmas
+pub mod KeptLemmas
+pub mod LeftLemmas
 pub mod NameLemmas
+pub mod NamedLemmas
+pub mod NarrowLemmas
+pub mod NumberedLemmas
+pub mod RenumberLemmas
 pub mod SightLemmas
+pub mod SightedLemmas
+pub mod TextLemmas
 pub mod WantedLemmas
 mod WorkedByReading

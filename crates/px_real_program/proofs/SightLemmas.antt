@@ -13,7 +13,7 @@ use Rattle.px_syntax.specs.TypedViews.{typed_expression, typed_condition, arithm
 use Rattle.px_typing.proofs.NumberLemmas.{insert_all-append}
 use Rattle.px_real_program.specs.declared.sights.Sights.{Sights}
 use Rattle.px_real_program.specs.Sights.{Sight, a_block, in_expression, in_condition, function_seen, block_seen, word_seen}
-use Rattle.px_real_program.specs.Steps.{Sees, links_seen, relations_seen, cells_seen, conditions_seen}
+use Rattle.px_real_program.specs.Steps.{Sees, AreSeen, links_seen, relations_seen, cells_seen, conditions_seen}
 
 pub none_seen : (s : Sights) → Sees s s []
 none_seen s = record { functions = refl; blocks = refl; words = refl }
@@ -70,3 +70,11 @@ in_any c (d ∷ ds) = regrouped (in_condition c) (in_condition (typed_condition 
 -- the first, those of the chain behind it, and the last
 pub chain_seen : (a b c d : Sights) (xs ys zs whole : List Sight) → Sees a b xs → Sees b c ys → Sees c d zs → whole ≡ (xs ++ ys) ++ zs → Sees a d whole
 chain_seen a b c d xs ys zs whole h k m e = subst (Sees a d) (sym e) (then_seen a c d (xs ++ ys) zs (then_seen a b c xs ys h k) m)
+
+-- where nothing was seen before, these are the numbers
+pub are_seen : (a b : Sights) (ss : List Sight) → a.functions.keys ≡ [] → a.blocks.keys ≡ [] → a.words.keys ≡ [] → Sees a b ss → AreSeen ss b
+are_seen a b ss e f g h = record {
+  functions = h.functions ∙ ap (λ z. insert_all nat_eq z (filter_map function_seen ss)) e;
+  blocks = h.blocks ∙ ap (λ z. insert_all nat_eq z (filter_map block_seen ss)) f;
+  words = h.words ∙ ap (λ z. insert_all nat_eq z (filter_map word_seen ss)) g;
+}

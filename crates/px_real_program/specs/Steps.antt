@@ -1,5 +1,5 @@
 -- What the code comes to, step by step.
-use Rattle.std.specs.Prelude.{◌≡◌, ℕ, ◌+◌, ◌*◌, ◌<◌, List, [], ◌∷◌, map, flat_map, filter_map, ◌++◌, length, slice_get, not, ◌&&◌, ◌||◌, Bool, false, Option, Some, None, is_some, is_none, option_map, unwrap_or, IfSome, codes, nat_eq, nat_lt, ◌-◌, ⊤, ⊥, Vec, if◌then◌else◌}
+use Rattle.std.specs.Prelude.{◌≡◌, ℕ, suc, ◌+◌, ◌*◌, ◌<◌, List, [], ◌∷◌, map, flat_map, filter_map, ◌++◌, length, slice_get, not, ◌&&◌, ◌||◌, Bool, false, Option, Some, None, is_some, is_none, option_map, unwrap_or, IfSome, codes, nat_eq, nat_lt, ◌-◌, ⊤, ⊥, Vec, if◌then◌else◌}
 use Rattle.std.specs.declared.alloc.Global.{Global}
 use Rattle.std.specs.Str.{bytes_eq}
 use Rattle.std.specs.Map.{lookup}
@@ -55,7 +55,7 @@ use Rattle.px_real_program.specs.declared.seen.SeenStructs.{SeenStructs}
 use Rattle.px_real_program.specs.declared.types.NamedTypes.{NamedTypes}
 use Rattle.px_real_links.specs.declared.definition.FileLinks.{FileLinks}
 use Rattle.px_real_program.specs.declared.looking.Look.{Look}
-use Rattle.px_real_program.specs.Keeping.{AskedTree, all_asked, names_in}
+use Rattle.px_real_program.specs.Keeping.{AskedTree, all_asked, names_in, name_or_none}
 use Rattle.px_real_program.specs.Files.{texts_of}
 use Rattle.px_real_program.specs.Looks.{DefinedTree, LookTree}
 use Rattle.px_real_program.specs.Structs.{Key, by_tag, by_typedef, by_place, same_key, is_number, file_number, in_run, FieldTree, StructTree, structs_in, says_braces}
@@ -63,7 +63,7 @@ use Rattle.px_real_program.specs.Hidden.{definitions_of, is_shared}
 use Rattle.px_real_program.specs.Renumbering.{Renumbering, new_block, new_expression}
 use Rattle.px_real_program.specs.Numbers.{KnownFile as KnownTree, structs_of_each, all_links, Place, same_place, is_kept_at, NumbersTree, id}
 use Rattle.px_real_program.specs.Sights.{Sight, a_block, in_expression, in_condition, function_seen, block_seen, word_seen}
-use Rattle.px_real_program.specs.Programs.{LeftTree, struct_count, text_at, says_fields, seen_structs, known_structs}
+use Rattle.px_real_program.specs.Programs.{LeftTree, struct_count, says_fields, seen_structs, known_structs}
 use Rattle.px_real_program.specs.Views.{file_view, defined_view, look_view, numbers_view}
 
 -- ---- keys, as they are found word by word
@@ -243,6 +243,21 @@ id_of_code (I.Named ids) n = unwrap_or (lookup (nat_eq n) ids.entries) 0
 abbrev pub type_id_of : TypeIds → ProfileType → ℕ
 type_id_of s t = or_else (coded t) (id_of_code s) 0
 
+-- how many are flagged
+abbrev pub true_count : List Bool → ℕ
+true_count [] = 0
+true_count (b ∷ bs) = if b then suc (true_count bs) else true_count bs
+
+-- the numbers of those that are flagged, from this one on
+abbrev pub numbers_from : ℕ → List Bool → List (Option ℕ)
+numbers_from n [] = []
+numbers_from n (b ∷ bs) = if b then Some n ∷ numbers_from (n + 1) bs else None ∷ numbers_from n bs
+
+-- the names of those that are flagged
+abbrev pub names_kept : List Bool → List DefinedTree → List (List ℕ)
+names_kept (b ∷ bs) (d ∷ ds) = if b then name_or_none d.name ∷ names_kept bs ds else names_kept bs ds
+names_kept _ _ = []
+
 -- that of a kept function, by its file and its number there
 abbrev pub kept_in : List (Vec (Option ℕ) Global) → ℕ → ℕ → Option ℕ
 kept_in kept file n = or_else (slice_get kept file) (λ ns. or_else (slice_get ns.items n) (λ o. o) None) None
@@ -274,18 +289,22 @@ pub record AreNumbers (fs : List KnownTree) (m : NumbersTree) (s : Numbers) : Ty
 abbrev pub texts_seen : Narrowing → List (List ℕ)
 texts_seen s = map (λ w. w.now) s.texts.now.keys
 
+-- the text with this number, where the first has that one
+abbrev pub numbered_text : ℕ → List (List ℕ) → ℕ → Option (List ℕ)
+numbered_text first ts n = if nat_lt n first then None else slice_get ts (n - first)
+
 -- a name that is left out, and one that no file defines
 abbrev pub out_seen_at : Narrowing → ℕ → Option (List ℕ)
-out_seen_at s n = if nat_lt n s.kept then None else slice_get (texts_seen s) (n - s.kept)
+out_seen_at s = numbered_text s.kept (texts_seen s)
 
 abbrev pub unknown_seen_at : Narrowing → ℕ → Option (List ℕ)
-unknown_seen_at s n = if nat_lt n (s.kept + length (texts_seen s)) then None else slice_get (texts_seen s) (n - (s.kept + length (texts_seen s)))
+unknown_seen_at s = numbered_text (s.kept + length (texts_seen s)) (texts_seen s)
 
 abbrev pub renumbering : Narrowing → Renumbering
 renumbering s = record {
   function = λ n. or_else (out_seen_at s n) (id_of s.numbers.now.out) (or_else (unknown_seen_at s n) (id_of s.numbers.now.unknown) n);
   block = λ n. id_of_code s.numbers.now.types (if nat_lt n s.types then n else 0);
-  word = λ n. id_of s.numbers.now.words (text_at (texts_seen s) n);
+  word = λ n. id_of s.numbers.now.words (or_else (numbered_text 0 (texts_seen s) n) (λ text. text) []);
 }
 
 -- the links of chains

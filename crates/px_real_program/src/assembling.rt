@@ -4,12 +4,14 @@ ghost use Rattle.px_syntax.specs.ProgramTree.{ProcedureTree, procedure_tree, pro
 ghost use Rattle.px_typing.specs.declared.typing.ProgramFault.TheVariants.{Procedures};
 ghost use Rattle.px_real_program.specs.Numbers.{KnownFile as KnownTree, NumbersTree, known_files, kept_places};
 ghost use Rattle.px_real_program.specs.Programs as Rules;
-ghost use Rattle.px_real_program.specs.Steps.{AreKnown, IsWhole, AreNumbers, AreSeenStructs, IsNamed, left_view};
-ghost use Rattle.px_real_program.specs.Views.{file_view};
+ghost use Rattle.px_real_program.specs.Steps.{AreKnown, IsWhole, AreNumbers, AreSeenStructs, IsNamed, left_view, names_kept};
+ghost use Rattle.px_real_program.specs.Keeping.{name_or_none};
+ghost use Rattle.px_real_program.specs.Views.{file_view, defined_view};
 
 use crate::file::RealFile;
 use crate::known::KnownRun;
 use crate::left::{LeftItem, left_of};
+use crate::looking::Look;
 use crate::naming::Named;
 use crate::numbering::{behind, kept_count};
 use crate::numbers::Numbers;
@@ -32,6 +34,34 @@ fn copied(alloc: Global, names: &IndexSet<&[u8]>, all: &mut Items<Name>) -> Resu
     Ok(())
 }
 
+// The name, or none.
+fn name_or_none(alloc: Global, name: &Option<Name>) -> Result<Name, NoMemory>
+    ensures { IfOk result (λ n. n ≡ name_or_none name.now) }
+{
+    match name {
+        Some(name) => Name::from_slice(alloc, name.as_slice()),
+        None => Ok(Name::new(alloc)),
+    }
+}
+
+// The names of those of a file that are kept are added.
+fn add_kept(
+    alloc: Global,
+    kept: &[bool],
+    look: &Look,
+    names: &mut Items<Name>,
+) -> Result<(), NoMemory>
+    requires { length kept.now ≡ length look.now.defined.items }
+    ensures { OnOk result (names.new ≡ names.old ++ names_kept kept.now (map defined_view look.now.defined.items)) }
+{
+    for number in 0..kept.len() {
+        if kept[number] {
+            names.push(name_or_none(alloc, &look.defined[number].name)?)?;
+        }
+    }
+    Ok(())
+}
+
 // The names of the functions that are kept.
 fn kept_names(alloc: Global, run: &KnownRun) -> Result<Items<Name>, NoMemory>
     requires { IsWhole run.now }
@@ -39,16 +69,7 @@ fn kept_names(alloc: Global, run: &KnownRun) -> Result<Items<Name>, NoMemory>
 {
     let mut names = Items::new(alloc);
     for file in 0..run.files.len() {
-        let kept = &run.kept[file].kept;
-        for number in 0..kept.len() {
-            if kept[number] {
-                let name = match &run.looks[file].defined[number].name {
-                    Some(name) => Name::from_slice(alloc, name.as_slice())?,
-                    None => Name::from_slice(alloc, &[])?,
-                };
-                names.push(name)?;
-            }
-        }
+        add_kept(alloc, &run.kept[file].kept, &run.looks[file], &mut names)?;
     }
     Ok(names)
 }

@@ -46,15 +46,26 @@ pub struct Shown<'a> {
     pub braces: Vec<Option<Texts<'a>>>,
 }
 
+// So many, or as many as the numbers of a file say.
+fn with_greatest(count: usize, own: &[u32]) -> usize
+    ensures { result ≡ greatest count own.now }
+{
+    let mut all = count;
+    for number in own {
+        if *number as usize >= all {
+            all = *number as usize + 1;
+        }
+    }
+    all
+}
+
 /// How many structs and unions there are in the run.
 pub fn struct_count(structs: &[Vec<u32>]) -> usize
     ensures { result ≡ greatest 0 (flat_map (λ ns. ns) (numbers_view structs.now)) }
 {
     let mut count = 0;
     for own in structs {
-        for number in own {
-            count = count.max(*number as usize + 1);
-        }
+        count = with_greatest(count, own);
     }
     count
 }

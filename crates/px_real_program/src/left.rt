@@ -1,12 +1,13 @@
-ghost use Rattle.std.specs.Prelude.{◌≡◌, List, map, option_map, IfOk};
+ghost use Rattle.std.specs.Prelude.{◌≡◌, ◌++◌, List, length, map, option_map, IfOk, OnOk};
 ghost use Rattle.px_real_links.specs.declared.callee.Callee.TheVariants as Called;
 ghost use Rattle.px_real_program.specs.Numbers.{KnownFile as KnownTree, NumbersTree, called};
 ghost use Rattle.px_real_program.specs.Programs as Rules;
-ghost use Rattle.px_real_program.specs.Steps.{AreKnown, IsWhole, AreNumbers, left_view};
+ghost use Rattle.px_real_program.specs.Steps.{AreKnown, IsWhole, AreNumbers, reason_word, left_view};
+ghost use Rattle.px_real_program.specs.Views.{defined_view};
 
-use crate::asked::Reason;
+use crate::asked::{Kept, Reason};
 use crate::known::KnownRun;
-use crate::looking::Defined;
+use crate::looking::{Defined, Look};
 use crate::numbers::Numbers;
 use indexmap::IndexSet;
 use px_base::ProcId;
@@ -23,6 +24,29 @@ pub struct LeftItem<'b> {
     pub reason: Reason,
 }
 
+// Those of a file are added.
+fn add_left<'b>(
+    file: usize,
+    kept: &'b Kept,
+    look: &'b Look<'b>,
+    all: &mut Vec<LeftItem<'b>>,
+) -> Result<(), NoMemory>
+    requires { length kept.entry.now.left.items ≡ length look.entry.now.defined.items }
+    ensures { OnOk result (map left_view all.new.items ≡ map left_view all.old.items ++ Rules.left_from file (map (option_map reason_word) kept.entry.now.left.items) (map defined_view look.entry.now.defined.items)) }
+{
+    for number in 0..kept.left.len() {
+        if let Some(reason) = kept.left[number] {
+            let defined = &look.defined[number];
+            all.push(LeftItem {
+                file,
+                defined,
+                reason,
+            })?;
+        }
+    }
+    Ok(())
+}
+
 /// The items that are left out, in order.
 pub fn left_items<'b>(alloc: Global, run: &'b KnownRun<'b>) -> Result<Vec<LeftItem<'b>>, NoMemory>
     requires { IsWhole run.entry.now }
@@ -30,17 +54,7 @@ pub fn left_items<'b>(alloc: Global, run: &'b KnownRun<'b>) -> Result<Vec<LeftIt
 {
     let mut all = Vec::new(alloc);
     for file in 0..run.files.len() {
-        let left = &run.kept[file].left;
-        for number in 0..left.len() {
-            if let Some(reason) = left[number] {
-                let defined = &run.looks[file].defined[number];
-                all.push(LeftItem {
-                    file,
-                    defined,
-                    reason,
-                })?;
-            }
-        }
+        add_left(file, &run.kept[file], &run.looks[file], &mut all)?;
     }
     Ok(all)
 }

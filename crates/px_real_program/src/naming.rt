@@ -1,12 +1,13 @@
-ghost use Rattle.std.specs.Prelude.{◌≡◌, List, map, filter_map, length, slice_get, IfOk, OnOk};
+ghost use Rattle.std.specs.Prelude.{◌≡◌, List, [], map, filter_map, option_map, length, IfOk, OnOk};
 ghost use Rattle.std.specs.Str.{bytes_eq};
 ghost use Rattle.indexmap.specs.IndexSet.{insert_all};
 ghost use Rattle.px_typing.specs.Sights.{first_sights};
-ghost use Rattle.px_real_program.specs.Files.{FileTree};
-ghost use Rattle.px_real_program.specs.Numbers.{NumbersTree, known_files};
+ghost use Rattle.px_real_types.specs.Scopes.{texts as texts_in};
+ghost use Rattle.px_real_program.specs.Files.{FileTree, file_texts, texts_of};
+ghost use Rattle.px_real_program.specs.Numbers.{known_files};
 ghost use Rattle.px_real_program.specs.Sights.{Sight};
 ghost use Rattle.px_real_program.specs.Programs as Rules;
-ghost use Rattle.px_real_program.specs.Steps.{AreKnown, AreSeen, AreSeenStructs, IsNamed, left_view};
+ghost use Rattle.px_real_program.specs.Steps.{AreKnown, AreSeen, AreSeenStructs, IsNamed, left_view, numbered_text};
 ghost use Rattle.px_real_program.specs.Views.{file_view};
 
 use crate::file::RealFile;
@@ -19,6 +20,7 @@ use crate::sights::Sights;
 use crate::types::{NamedTypes, named_types};
 use indexmap::IndexSet;
 use px_expressions::text;
+use px_real_types::Texts;
 use px_terms::NoMemory;
 use std::alloc::Global;
 
@@ -26,80 +28,82 @@ use std::alloc::Global;
 const OWN_WORDS: &[u8] =
     b"form type call cast constant string enum int malloc return NULL cleanup switch do goto case default break continue sizeof _Alignof __real__ __imag__ ( [ . -> ? , = * / % + - << >> < > <= >= == != & ^ | && || ~ ! ++ -- *= /= %= += -= <<= >>= &= ^= |=";
 
-// These words.
-fn own_texts<'a>(alloc: Global) -> Result<IndexSet<&'a [u8]>, NoMemory>
-    ensures { IfOk result (λ s. map (λ w. w.now) s.keys ≡ first_sights bytes_eq Rules.own_words) }
+// The words of a text with blanks between them.
+fn separated<'a>(alloc: Global, all: &'a [u8]) -> Result<IndexSet<&'a [u8]>, NoMemory>
+    ensures { IfOk result (λ s. map (λ w. w.now) s.keys ≡ first_sights bytes_eq (Rules.separated_from [] all.entry.now)) }
 {
     let mut texts = IndexSet::new(alloc);
     let mut start = 0;
-    for at in 0..OWN_WORDS.len() {
-        if OWN_WORDS[at] == b' ' {
-            texts.insert(&OWN_WORDS[start..at])?;
+    for at in 0..all.len() {
+        if all[at] == b' ' {
+            texts.insert(&all[start..at])?;
             start = at + 1;
         }
     }
-    texts.insert(&OWN_WORDS[start..])?;
+    texts.insert(&all[start..])?;
     Ok(texts)
+}
+
+// The texts of an item are taken in.
+fn add_texts<'a>(texts: &mut IndexSet<&'a [u8]>, own: Texts<'a>) -> Result<(), NoMemory>
+    ensures { OnOk result (map (λ w. w.now) texts.new.keys ≡ insert_all bytes_eq (map (λ w. w.now) texts.old.keys) (texts_of (texts_in own.entry))) }
+{
+    for token in own.tokens {
+        texts.insert(text(own.source, token.start, token.end))?;
+    }
+    Ok(())
+}
+
+// Those of a file.
+fn add_file<'a>(texts: &mut IndexSet<&'a [u8]>, file: &'a RealFile) -> Result<(), NoMemory>
+    ensures { OnOk result (map (λ w. w.now) texts.new.keys ≡ insert_all bytes_eq (map (λ w. w.now) texts.old.keys) (file_texts (file_view file.entry.now))) }
+{
+    for item in &file.items {
+        add_texts(texts, tokens_of(file.texts(), item))?;
+    }
+    Ok(())
 }
 
 /// All texts of the files, behind these words.
 pub fn all_texts<'a>(alloc: Global, files: &'a [RealFile]) -> Result<IndexSet<&'a [u8]>, NoMemory>
     ensures { IfOk result (λ s. map (λ w. w.now) s.keys ≡ Rules.all_texts (map file_view files.entry.now)) }
 {
-    let mut texts = own_texts(alloc)?;
+    let mut texts = separated(alloc, OWN_WORDS)?;
     for file in files {
-        for item in &file.items {
-            let own = tokens_of(file.texts(), item);
-            for token in own.tokens {
-                texts.insert(text(own.source, token.start, token.end))?;
-            }
-        }
+        add_file(&mut texts, file)?;
     }
     Ok(texts)
 }
 
-// The names of called functions that aren't kept are taken in: those that are left out, and those that no file defines.
-fn add_called<'b>(
-    kept: u32,
-    texts: &IndexSet<&'b [u8]>,
-    functions: &IndexSet<u32>,
-    out: &mut IndexSet<&'b [u8]>,
-    unknown: &mut IndexSet<&'b [u8]>,
-) -> Result<(), NoMemory>
-    ensures out { (m : NumbersTree) → length m.kept ≡ kept → m.out ≡ map (λ w. w.now) texts.now.keys → m.unknown ≡ m.out → OnOk result (map (λ w. w.now) out.new.keys ≡ insert_all bytes_eq (map (λ w. w.now) out.old.keys) (filter_map (Rules.out_at m) functions.now.keys)) }
-    ensures unknown { (m : NumbersTree) → length m.kept ≡ kept → m.out ≡ map (λ w. w.now) texts.now.keys → m.unknown ≡ m.out → OnOk result (map (λ w. w.now) unknown.new.keys ≡ insert_all bytes_eq (map (λ w. w.now) unknown.old.keys) (filter_map (Rules.unknown_at m) functions.now.keys)) }
+/// The text with this number, where the first has that one. Takes no memory.
+pub fn text_at<'b>(texts: &IndexSet<&'b [u8]>, first: usize, number: u32) -> Option<&'b [u8]>
+    ensures { option_map (λ w. w.now) result ≡ numbered_text first (map (λ w. w.now) texts.now.keys) number }
 {
-    for function in functions.as_slice() {
-        let number = *function as usize;
-        let first = kept as usize;
-        if number >= first + texts.len() {
-            if let Some(name) = texts.get_index(number - (first + texts.len())) {
-                unknown.insert(*name)?;
-            }
-        } else if number >= first {
-            if let Some(name) = texts.get_index(number - first) {
-                out.insert(*name)?;
-            }
+    let number = number as usize;
+    if number < first {
+        return None;
+    }
+    match texts.get_index(number - first) {
+        Some(text) => Some(*text),
+        None => None,
+    }
+}
+
+// The texts with these numbers, where the first has that one, are taken in.
+fn add_named<'b>(
+    texts: &IndexSet<&'b [u8]>,
+    first: usize,
+    numbers: &IndexSet<u32>,
+    names: &mut IndexSet<&'b [u8]>,
+) -> Result<(), NoMemory>
+    ensures { OnOk result (map (λ w. w.now) names.new.keys ≡ insert_all bytes_eq (map (λ w. w.now) names.old.keys) (filter_map (numbered_text first (map (λ w. w.now) texts.now.keys)) numbers.now.keys)) }
+{
+    for number in numbers.as_slice() {
+        if let Some(name) = text_at(texts, first, *number) {
+            names.insert(name)?;
         }
     }
     Ok(())
-}
-
-// The words with these numbers.
-fn words_of<'a>(
-    alloc: Global,
-    texts: &IndexSet<&'a [u8]>,
-    numbers: &IndexSet<u32>,
-) -> Result<IndexSet<&'a [u8]>, NoMemory>
-    ensures { IfOk result (λ s. map (λ w. w.now) s.keys ≡ first_sights bytes_eq (filter_map (slice_get (map (λ w. w.now) texts.now.keys)) numbers.now.keys)) }
-{
-    let mut words = IndexSet::new(alloc);
-    for number in numbers.as_slice() {
-        if let Some(word) = texts.get_index(*number as usize) {
-            words.insert(*word)?;
-        }
-    }
-    Ok(words)
 }
 
 /// What the kept functions name.
@@ -126,14 +130,17 @@ pub fn named_by<'b>(
 {
     let mut out = out_names(alloc, run, left)?;
     let own = out.len();
+    let kept = kept_count(run)? as usize;
+    add_named(texts, kept, &sights.functions, &mut out)?;
     let mut unknown = IndexSet::new(alloc);
-    let kept = kept_count(run)?;
-    add_called(kept, texts, &sights.functions, &mut out, &mut unknown)?;
+    add_named(texts, kept + texts.len(), &sights.functions, &mut unknown)?;
+    let mut words = IndexSet::new(alloc);
+    add_named(texts, 0, &sights.words, &mut words)?;
     Ok(Named {
         out,
         own,
         unknown,
-        words: words_of(alloc, texts, &sights.words)?,
+        words,
         types: named_types(alloc, run, seen, &sights.blocks)?,
     })
 }

@@ -2,6 +2,7 @@ ghost use Rattle.std.specs.Prelude.{◌≡◌};
 ghost use Rattle.px_real_program.specs.Renumbering as Rules;
 ghost use Rattle.px_real_program.specs.Steps.{renumbering};
 
+use crate::naming::text_at;
 use crate::numbers::Numbers;
 use indexmap::IndexSet;
 use px_base::ProcId;
@@ -23,19 +24,14 @@ impl<'b, 'a> Narrowing<'b, 'a> {
     fn function(&self, number: u32) -> u32
         ensures { result ≡ (renumbering self.now).function number }
     {
-        if number < self.kept {
-            return number;
-        }
-        let behind = (number - self.kept) as usize;
-        if let Some(name) = self.texts.get_index(behind) {
+        let kept = self.kept as usize;
+        if let Some(name) = text_at(self.texts, kept, number) {
             return self.numbers.out.number(name);
         }
-        if behind >= self.texts.len() {
-            if let Some(name) = self.texts.get_index(behind - self.texts.len()) {
-                return self.numbers.unknown.number(name);
-            }
+        match text_at(self.texts, kept + self.texts.len(), number) {
+            Some(name) => self.numbers.unknown.number(name),
+            None => number,
         }
-        number
     }
 
     // Of a block type.
@@ -53,7 +49,7 @@ impl<'b, 'a> Narrowing<'b, 'a> {
     pub fn word(&self, number: u32) -> u32
         ensures { result ≡ (renumbering self.now).word number }
     {
-        match self.texts.get_index(number as usize) {
+        match text_at(self.texts, 0, number) {
             Some(word) => self.numbers.words.number(word),
             None => self.numbers.words.number(&[]),
         }

@@ -1,6 +1,6 @@
 ghost use Rattle.std.specs.Prelude.{◌≡◌, ◌+◌, List, map, length, IfOk};
 ghost use Rattle.px_real_program.specs.Numbers.{KnownFile as KnownTree, NumbersTree, kept_places};
-ghost use Rattle.px_real_program.specs.Steps.{AreKnown, AreNumbers, AreTypesNumbered, AreKeptNumbers};
+ghost use Rattle.px_real_program.specs.Steps.{AreKnown, AreNumbers, AreTypesNumbered, AreKeptNumbers, true_count, numbers_from};
 
 use crate::fields::as_number;
 use crate::known::KnownRun;
@@ -9,19 +9,45 @@ use indexmap::IndexSet;
 use px_terms::NoMemory;
 use std::alloc::Global;
 
+// So many functions, and those of a file that are kept.
+fn with_kept(count: u32, kept: &[bool]) -> Result<u32, NoMemory>
+    ensures { IfOk result (λ n. n ≡ count + true_count kept.now) }
+{
+    let mut all = count;
+    for flag in kept {
+        if *flag {
+            all = behind(all, 1)?;
+        }
+    }
+    Ok(all)
+}
+
 /// How many functions are kept.
 pub fn kept_count(run: &KnownRun) -> Result<u32, NoMemory>
     ensures { (fs : List KnownTree) → AreKnown fs run.now → IfOk result (λ n. n ≡ length (kept_places 0 fs)) }
 {
     let mut count: u32 = 0;
     for known in &run.kept {
-        for kept in &known.kept {
-            if *kept {
-                count = behind(count, 1)?;
-            }
-        }
+        count = with_kept(count, &known.kept)?;
     }
     Ok(count)
+}
+
+// The numbers of those of a file that are kept, from this one on.
+fn kept_from(alloc: Global, first: u32, kept: &[bool]) -> Result<Vec<Option<u32>>, NoMemory>
+    ensures { IfOk result (λ v. v.items ≡ numbers_from first kept.now) }
+{
+    let mut own = Vec::new(alloc);
+    let mut next = first;
+    for flag in kept {
+        if *flag {
+            own.push(Some(next))?;
+            next = behind(next, 1)?;
+        } else {
+            own.push(None)?;
+        }
+    }
+    Ok(own)
 }
 
 // The numbers of the functions that are kept, in order.
@@ -31,16 +57,8 @@ fn kept_numbers(alloc: Global, run: &KnownRun) -> Result<Vec<Vec<Option<u32>>>, 
     let mut all = Vec::new(alloc);
     let mut next: u32 = 0;
     for known in &run.kept {
-        let mut own = Vec::new(alloc);
-        for kept in &known.kept {
-            if *kept {
-                own.push(Some(next))?;
-                next = behind(next, 1)?;
-            } else {
-                own.push(None)?;
-            }
-        }
-        all.push(own)?;
+        all.push(kept_from(alloc, next, &known.kept)?)?;
+        next = with_kept(next, &known.kept)?;
     }
     Ok(all)
 }

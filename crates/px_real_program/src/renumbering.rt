@@ -164,15 +164,18 @@ fn renumber_condition(condition: &mut Condition, by: &Narrowing)
             renumber_relations(before, by);
             renumber_expression(right, by);
         }
-        Condition::Word { operand, .. } | Condition::Pointer { operand, .. } => {
-            renumber_expression(operand, by);
-        }
+        Condition::Word { operand, .. } => renumber_expression(operand, by),
+        Condition::Pointer { operand, .. } => renumber_expression(operand, by),
         Condition::And {
             first,
             before,
             right,
+        } => {
+            renumber_condition(first, by);
+            renumber_conditions(before, by);
+            renumber_condition(right, by);
         }
-        | Condition::Or {
+        Condition::Or {
             first,
             before,
             right,
@@ -232,14 +235,16 @@ fn renumber_statement(statement: &mut TypedStatement, by: &Narrowing)
 {
     match statement {
         TypedStatement::Block { statements } => renumber_statements(statements, by),
-        TypedStatement::Declare { value, .. } | TypedStatement::Return { value } => {
-            renumber_value_of(value, by);
+        TypedStatement::Declare { value, .. } => renumber_value_of(value, by),
+        TypedStatement::Return { value } => renumber_value_of(value, by),
+        TypedStatement::Assign { place, value } => {
+            renumber_place(place, by);
+            renumber_expression(value, by);
         }
-        TypedStatement::Assign { place, value } | TypedStatement::Update { place, value, .. } =>
-            {
-                renumber_place(place, by);
-                renumber_expression(value, by);
-            }
+        TypedStatement::Update { place, value, .. } => {
+            renumber_place(place, by);
+            renumber_expression(value, by);
+        }
         TypedStatement::Call {
             proc,
             arguments,

@@ -1,11 +1,11 @@
-ghost use Rattle.std.specs.Prelude.{◌≡◌, ◌+◌, ◌*◌, ◌∷◌, ◌++◌, List, drop, map, flat_map, IfOk, OnOk};
-ghost use Rattle.std.specs.List.{AllByRecursion};
+ghost use Rattle.std.specs.Prelude.{◌≡◌, ◌+◌, ◌*◌, ◌∷◌, ◌++◌, List, drop, map, flat_map, filter_map, slice_get, IfOk, OnOk};
+ghost use Rattle.px_typing.specs.Sights.{first_sights};
 ghost use Rattle.px_real_types.specs.declared.shape.Base.TheVariants as B;
 ghost use Rattle.px_real_types.specs.declared.shape.ProfileType.{ProfileType as SpecType};
-ghost use Rattle.px_real_types.specs.Types.{int, number_of};
+ghost use Rattle.px_real_types.specs.Types.{int, number_of, same_type};
 ghost use Rattle.px_real_program.specs.Numbers.{KnownFile as KnownTree, NumbersTree};
 ghost use Rattle.px_real_program.specs.Programs as Rules;
-ghost use Rattle.px_real_program.specs.Steps.{AreKnown, AreSeenStructs, AreTypesNumbered, AreTypes, SeesTypes, IsCoded, code_of};
+ghost use Rattle.px_real_program.specs.Steps.{AreKnown, AreSeenStructs, AreTypesNumbered, AreTypes, SeesTypes};
 
 use crate::fields::as_number;
 use crate::known::KnownRun;
@@ -141,6 +141,27 @@ pub fn all_types(run: &KnownRun) -> Result<TypeIds, NoMemory>
     Ok(TypeIds::All(most_types(run)?))
 }
 
+// An int, and those that are named, by the codes of those that stand in trees.
+fn first_types(
+    alloc: Global,
+    run: &KnownRun,
+    codes: &IndexSet<u32>,
+) -> Result<NamedTypes, NoMemory>
+    ensures { (fs : List KnownTree) → AreKnown fs run.now → IfOk result (AreTypes (first_sights same_type (int ∷ flat_map Rules.with_bases (filter_map (slice_get (Rules.with_stars B.Int ++ Rules.all_structs (Rules.struct_count fs))) codes.now.keys)))) }
+{
+    let most = most_types(run)?;
+    let mut types = NamedTypes {
+        codes: IndexSet::new(alloc),
+    };
+    types.codes.insert(0)?;
+    for code in codes.as_slice() {
+        if *code < most {
+            types.see(type_of(*code))?;
+        }
+    }
+    Ok(types)
+}
+
 /// The block types that are named, an int first, by the codes of those that stand in trees; and what their cells lead to.
 pub fn named_types(
     alloc: Global,
@@ -148,15 +169,9 @@ pub fn named_types(
     seen: &SeenStructs,
     codes: &IndexSet<u32>,
 ) -> Result<NamedTypes, NoMemory>
-    ensures { (fs : List KnownTree) → AreKnown fs run.now → AreSeenStructs fs seen.now → (ts : List SpecType) → map code_of ts ≡ codes.now.keys → AllByRecursion IsCoded ts → IfOk result (AreTypes (Rules.reached fs (Rules.struct_count fs) (int ∷ flat_map Rules.with_bases ts))) }
+    ensures { (fs : List KnownTree) → AreKnown fs run.now → AreSeenStructs fs seen.now → IfOk result (AreTypes (Rules.reached fs (Rules.struct_count fs) (int ∷ flat_map Rules.with_bases (filter_map (slice_get (Rules.with_stars B.Int ++ Rules.all_structs (Rules.struct_count fs))) codes.now.keys)))) }
 {
-    let mut types = NamedTypes {
-        codes: IndexSet::new(alloc),
-    };
-    types.codes.insert(0)?;
-    for code in codes.as_slice() {
-        types.see(type_of(*code))?;
-    }
+    let mut types = first_types(alloc, run, codes)?;
     // What came last is looked at, as long as there is more; each time but the last a struct comes.
     let mut from = 0;
     for round in 0..run.count {

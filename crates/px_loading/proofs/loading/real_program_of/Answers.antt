@@ -1,8 +1,7 @@
 use Rattle.std.proofs.Common.{◌≡◌, ◌∙◌, ◌<◌, length, map, sym, ap, subst, Err}
 use Rattle.std.specs.String.{string_bytes}
 use Rattle.px_syntax.specs.ProgramTree.{program_tree}
-use Rattle.px_real_program.specs.Views.{file_view, run_view}
-use Rattle.px_real_program.specs.Programs.{RunTree, program_of}
+use Rattle.px_real_program.specs.Views.{file_view}
 use Rattle.px_base.specs.Bounds.{most_procedures}
 use Rattle.px_base.specs.Texts.{texts}
 use Rattle.px_loading.specs.declared.language.Language.TheVariants.{Real}
@@ -17,9 +16,8 @@ returns-in-Ok-clause-program c =
     let sources = c.args.sources.items in
     let e : length sources ≡ length names = c.requires.as_many ∙ sym (length_mapped string_bytes c.args.names.now) in
     let files = map file_view c.in_ok-files.files.items in
-    let is : program_tree c.in-Ok.run.program ≡ (program_of files).program = ap (λ (r : RunTree). r.program) c.in-Ok.ensures.program in
-    alone Real names sources (program_tree c.in-Ok.run.program) e
-    (says_only Real names (map (λ s. s.items) sources) files (program_tree c.in-Ok.run.program) c.in_ok-files.ensures.files is c.in-Ok.ensures.few)
+    alone Real names sources (program_tree c.in-Ok.program) e
+    (says_only Real names (map (λ s. s.items) sources) files (program_tree c.in-Ok.program) c.in_ok-files.ensures.files c.in-Ok.ensures.program c.in-Ok.ensures.few)
 
 pub returns-in-Err-Procedures-clause-none : goal.returns-in-Err-Procedures-clause-none
 returns-in-Err-Procedures-clause-none c =
