@@ -1,13 +1,15 @@
 -- The look over tokens, one after the other.
-use Rattle.std.proofs.Common.{◌≡◌, ◌∙◌, refl, sym, ap, ap₂, ℕ, ◌+◌, ◌<◌, ◌≤◌, Bool, true, false, cond, ◌&&◌, ◌||◌, not, List, map, drop, length, slice_index_or, Option, Some, None, is_some}
+use Rattle.std.proofs.Common.{◌≡◌, ◌∙◌, refl, sym, ap, ap₂, ℕ, zero, suc, ◌+◌, ◌<◌, ◌≤◌, Bool, true, false, cond, ◌&&◌, ◌||◌, not, List, [], ◌∷◌, map, drop, length, slice_index_or, Option, Some, None, is_some}
 use Rattle.std.specs.Prelude.{if◌then◌else◌}
 use Rattle.std.specs.Str.{bytes_eq}
 use Rattle.std.proofs.lemmas.Slice.Eq.{bytes_eq-Decides}
+use Rattle.px_expressions.specs.Reading.{or_else}
 use Rattle.px_expressions.specs.Terminals.{is_in}
 use Rattle.px_real_expressions.specs.declared.terminal.Terminal.TheVariants as T
 use Rattle.px_real_expressions.specs.Lexemes.{Lexeme, same}
 use Rattle.px_real_symbols.proofs.FrontLemmas.{drop_mapped, drop_past}
-use Rattle.px_real_locals.specs.Addressed.{ends_operand, is_passed, leads_on, taken, with_name, addressed_from}
+use Rattle.px_real_locals.specs.declared.before.Before.{Before}
+use Rattle.px_real_locals.specs.Addressed.{ends_operand, behind as after_one, goes_on, leads_on, named, passes, taken, with_name, addressed_from}
 use Rattle.px_real_locals.specs.Views.{is_taken}
 
 -- ---- names that are found
@@ -53,64 +55,86 @@ module _ {A : Type 0} (view : A → Lexeme) (xs : List A) (i : ℕ) (x : A) wher
   abbrev behind : List Lexeme
   behind = drop (i + 1) (map view xs)
 
+  -- ---- behind the name
+
+  pub leads_at_once : i < length xs → goes_on here.terminal ≡ leads_on 0 (drop i (map view xs))
+  leads_at_once lt = sym (ap (leads_on 0) (drop_mapped view xs i x lt))
+
+  pub leads_there : (n : ℕ) → i < length xs → same here.terminal T.CloseParenthesis ≡ false → goes_on here.terminal ≡ leads_on n (drop i (map view xs))
+  leads_there n lt h = sym (ap (leads_on n) (drop_mapped view xs i x lt) ∙ by n)
+    where
+      by : (n : ℕ) → leads_on n (here ∷ behind) ≡ goes_on here.terminal
+      by zero = refl
+      by (suc n) = ap (λ b. if b then leads_on n behind else goes_on here.terminal) h
+
+  pub leads_past : (n : ℕ) → i < length xs → same here.terminal T.CloseParenthesis ≡ true → leads_on n behind ≡ leads_on (suc n) (drop i (map view xs))
+  leads_past n lt h = sym (ap (leads_on (suc n)) (drop_mapped view xs i x lt) ∙ ap (λ b. if b then leads_on n behind else goes_on here.terminal) h)
+
+  pub leads_nowhere : (n : ℕ) → length xs ≤ i → false ≡ leads_on n (drop i (map view xs))
+  leads_nowhere n le = sym (ap (leads_on n) (drop_past view xs i le) ∙ by n)
+    where
+      by : (n : ℕ) → leads_on n [] ≡ false
+      by zero = refl
+      by (suc n) = refl
+
   -- ---- behind `&`
 
-  abbrev pub Named : Option (List ℕ)
-  Named = if same here.terminal T.Name && not (leads_on behind) then Some here.text else None
+  abbrev Passed : ℕ → Option ℕ → Option (List ℕ)
+  Passed n o = or_else o (λ k. taken (n + k) behind) (named n here behind)
+
+  taken_of : (n : ℕ) → i < length xs → taken n (drop i (map view xs)) ≡ Passed n (passes here.terminal)
+  taken_of n lt = ap (taken n) (drop_mapped view xs i x lt)
 
   -- what stands between it and the name is passed
-  pub passed_on : i < length xs → is_passed here.terminal ≡ true → taken behind ≡ taken (drop i (map view xs))
-  passed_on lt h = sym (ap taken (drop_mapped view xs i x lt) ∙ ap (λ b. if b then taken behind else Named) h)
+  pub passed_on : (n k : ℕ) → i < length xs → Some k ≡ passes here.terminal → taken (n + k) behind ≡ taken n (drop i (map view xs))
+  passed_on n k lt h = sym (taken_of n lt ∙ ap (Passed n) (sym h))
 
-  pub taken_there : i < length xs → is_passed here.terminal ≡ false → Named ≡ taken (drop i (map view xs))
-  taken_there lt h = sym (ap taken (drop_mapped view xs i x lt) ∙ ap (λ b. if b then taken behind else Named) h)
+  pub taken_there : (n : ℕ) → i < length xs → None ≡ passes here.terminal → named n here behind ≡ taken n (drop i (map view xs))
+  taken_there n lt h = sym (taken_of n lt ∙ ap (Passed n) (sym h))
 
-  pub none_taken : length xs ≤ i → None ≡ taken (drop i (map view xs))
-  none_taken le = sym (ap taken (drop_past view xs i le))
-
-  pub leads_there : i < length xs → leads_on (drop i (map view xs)) ≡ (same here.terminal T.Arrow || same here.terminal T.OpenBracket)
-  leads_there lt = ap leads_on (drop_mapped view xs i x lt)
+  pub none_taken : (n : ℕ) → length xs ≤ i → None ≡ taken n (drop i (map view xs))
+  none_taken n le = sym (ap (taken n) (drop_past view xs i le))
 
   -- ---- in order
 
-  module _ (ts : List Lexeme) (all : map view xs ≡ ts) (ended : Bool) (name : List ℕ) (old whole : Bool) (so_far : (old || is_in (addressed_from ended (drop i ts)) name) ≡ whole) where
+  module _ (ts : List Lexeme) (all : map view xs ≡ ts) (before : Before) (name : List ℕ) (old whole : Bool) (so_far : (old || is_in (addressed_from before (drop i ts)) name) ≡ whole) where
     abbrev rest : List (List ℕ)
-    rest = addressed_from (ends_operand here.terminal) behind
+    rest = addressed_from (after_one before here.terminal) behind
 
-    module _ (lt : i < length xs) (is : x ≡ slice_index_or xs i x) (after : Bool) (ends : after ≡ ends_operand (view x).terminal) where
-      next_addressed : (b : Bool) → (same here.terminal T.Ampersand && not ended) ≡ b → (old || is_in (if b then with_name (taken behind) rest else rest) name) ≡ whole
+    module _ (lt : i < length xs) (is : x ≡ slice_index_or xs i x) (after : Before) (ends : after ≡ after_one before (view x).terminal) where
+      next_addressed : (b : Bool) → (same here.terminal T.Ampersand && not (ends_operand before)) ≡ b → (old || is_in (if b then with_name (taken 0 behind) rest else rest) name) ≡ whole
       next_addressed b h =
-          sym (ap (λ z. old || is_in (addressed_from ended z) name) (drop_mapped view xs i x lt) ∙ ap (λ z. old || is_in (if z then with_name (taken behind) rest else rest) name) h)
-          ∙ ap (λ z. old || is_in (addressed_from ended (drop i z)) name) all
+          sym (ap (λ z. old || is_in (addressed_from before z) name) (drop_mapped view xs i x lt) ∙ ap (λ z. old || is_in (if z then with_name (taken 0 behind) rest else rest) name) h)
+          ∙ ap (λ z. old || is_in (addressed_from before (drop i z)) name) all
           ∙ so_far
 
       left : (new : Bool) → (new || is_in (addressed_from after (drop (i + 1) ts)) name) ≡ (new || is_in rest name)
       left new =
-          ap (λ z. new || is_in (addressed_from z (drop (i + 1) ts)) name) (ends ∙ ap (λ z. ends_operand (view z).terminal) is)
-          ∙ sym (ap (λ z. new || is_in (addressed_from (ends_operand here.terminal) (drop (i + 1) z)) name) all)
+          ap (λ z. new || is_in (addressed_from z (drop (i + 1) ts)) name) (ends ∙ ap (λ z. after_one before (view z).terminal) is)
+          ∙ sym (ap (λ z. new || is_in (addressed_from (after_one before here.terminal) (drop (i + 1) z)) name) all)
 
       sign : (b : Bool) → same (view x).terminal T.Ampersand ≡ b → same here.terminal T.Ampersand ≡ b
       sign b h = sym (ap (λ z. same (view z).terminal T.Ampersand) is) ∙ h
 
       -- an address is taken
-      pub one_addressed : same (view x).terminal T.Ampersand ≡ true → ended ≡ false → (new : Bool) → new ≡ (is_taken (taken behind) name || old) → (new || is_in (addressed_from after (drop (i + 1) ts)) name) ≡ whole
+      pub one_addressed : same (view x).terminal T.Ampersand ≡ true → ends_operand before ≡ false → (new : Bool) → new ≡ (is_taken (taken 0 behind) name || old) → (new || is_in (addressed_from after (drop (i + 1) ts)) name) ≡ whole
       one_addressed p q new e =
           left new
           ∙ ap (λ z. z || is_in rest name) e
-          ∙ found_before (is_taken (taken behind) name) old (is_in rest name)
-          ∙ sym (ap (λ z. old || z) (with_name_in (taken behind) rest name))
+          ∙ found_before (is_taken (taken 0 behind) name) old (is_in rest name)
+          ∙ sym (ap (λ z. old || z) (with_name_in (taken 0 behind) rest name))
           ∙ next_addressed true (ap₂ (λ a b. a && not b) (sign true p) q)
 
       -- none is: between two operands, or no `&`
-      pub none_between : same (view x).terminal T.Ampersand ≡ true → ended ≡ true → (old || is_in (addressed_from after (drop (i + 1) ts)) name) ≡ whole
+      pub none_between : same (view x).terminal T.Ampersand ≡ true → ends_operand before ≡ true → (old || is_in (addressed_from after (drop (i + 1) ts)) name) ≡ whole
       none_between p q = left old ∙ next_addressed false (ap₂ (λ a b. a && not b) (sign true p) q)
 
       pub none_there : same (view x).terminal T.Ampersand ≡ false → (old || is_in (addressed_from after (drop (i + 1) ts)) name) ≡ whole
-      none_there p = left old ∙ next_addressed false (ap (λ a. a && not ended) (sign false p))
+      none_there p = left old ∙ next_addressed false (ap (λ a. a && not (ends_operand before)) (sign false p))
 
     -- nothing is left
     pub all_addressed : length xs ≤ i → old ≡ whole
-    all_addressed le = by old ∙ sym (ap (λ z. old || is_in (addressed_from ended z) name) (drop_past view xs i le)) ∙ ap (λ z. old || is_in (addressed_from ended (drop i z)) name) all ∙ so_far
+    all_addressed le = by old ∙ sym (ap (λ z. old || is_in (addressed_from before z) name) (drop_past view xs i le)) ∙ ap (λ z. old || is_in (addressed_from before (drop i z)) name) all ∙ so_far
       where
         by : (b : Bool) → b ≡ (b || false)
         by true = refl

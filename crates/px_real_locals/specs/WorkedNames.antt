@@ -41,6 +41,27 @@ pub record Worked : Type 0 where
   pub of_member : Takes (a_sign T.Ampersand ∷ p ∷ a_sign T.Arrow ∷ x ∷ []) []
   pub of_element : Takes (a_sign T.Ampersand ∷ p ∷ a_sign T.OpenBracket ∷ a_sign T.Constant ∷ a_sign T.CloseBracket ∷ []) []
   pub of_own_member : Takes (a_sign T.Ampersand ∷ x ∷ a_sign T.Dot ∷ p ∷ []) (codes "x" ∷ [])
+  -- `&(p)->m`, `&(x)`, `(&p)->m`, `(&(p))->m`
+  pub of_member_in_parentheses : Takes (a_sign T.Ampersand ∷ a_sign T.OpenParenthesis ∷ p ∷ a_sign T.CloseParenthesis ∷ a_sign T.Arrow ∷ x ∷ []) []
+  pub before_member : Takes (a_sign T.OpenParenthesis ∷ a_sign T.Ampersand ∷ p ∷ a_sign T.CloseParenthesis ∷ a_sign T.Arrow ∷ x ∷ []) (codes "p" ∷ [])
+  pub in_parentheses_before_member :
+      Takes (a_sign T.OpenParenthesis ∷ a_sign T.Ampersand ∷ a_sign T.OpenParenthesis ∷ p ∷ a_sign T.CloseParenthesis ∷ a_sign T.CloseParenthesis ∷ a_sign T.Arrow ∷ x ∷ [])
+      (codes "p" ∷ [])
+  -- `(p + 1) & x`, `f() & x`, `f(p) & x`, `f(p, 1) & x`
+  pub behind_sum : Takes (a_sign T.OpenParenthesis ∷ p ∷ a_sign T.Plus ∷ a_sign T.Constant ∷ a_sign T.CloseParenthesis ∷ a_sign T.Ampersand ∷ x ∷ []) []
+  pub behind_call : Takes (a_name (codes "f") ∷ a_sign T.OpenParenthesis ∷ a_sign T.CloseParenthesis ∷ a_sign T.Ampersand ∷ x ∷ []) []
+  pub behind_call_of_name : Takes (a_name (codes "f") ∷ a_sign T.OpenParenthesis ∷ p ∷ a_sign T.CloseParenthesis ∷ a_sign T.Ampersand ∷ x ∷ []) []
+  pub behind_call_of_two :
+      Takes (a_name (codes "f") ∷ a_sign T.OpenParenthesis ∷ p ∷ a_sign T.Comma ∷ a_sign T.Constant ∷ a_sign T.CloseParenthesis ∷ a_sign T.Ampersand ∷ x ∷ []) []
+  -- `(T)&x`, `(const T)&x`, `(__typeof__(1))&x`, `(int (*)[3])&x`
+  pub cast_to_name : Takes (a_sign T.OpenParenthesis ∷ a_name (codes "T") ∷ a_sign T.CloseParenthesis ∷ a_sign T.Ampersand ∷ x ∷ []) (codes "x" ∷ [])
+  pub cast_to_constant : Takes (a_sign T.OpenParenthesis ∷ a_sign T.Type ∷ a_name (codes "T") ∷ a_sign T.CloseParenthesis ∷ a_sign T.Ampersand ∷ x ∷ []) (codes "x" ∷ [])
+  pub cast_to_type_of :
+      Takes (a_sign T.OpenParenthesis ∷ a_sign T.Type ∷ a_sign T.OpenParenthesis ∷ a_sign T.Constant ∷ a_sign T.CloseParenthesis ∷ a_sign T.CloseParenthesis ∷ a_sign T.Ampersand ∷ x ∷ [])
+      (codes "x" ∷ [])
+  pub cast_to_array :
+      Takes (a_sign T.OpenParenthesis ∷ a_sign T.Type ∷ a_sign T.OpenParenthesis ∷ a_sign T.Star ∷ a_sign T.CloseParenthesis ∷ a_sign T.OpenBracket ∷ a_sign T.Constant ∷ a_sign T.CloseBracket ∷ a_sign T.CloseParenthesis ∷ a_sign T.Ampersand ∷ x ∷ [])
+      (codes "x" ∷ [])
   -- `&*&x`, `&f()`
   pub twice : Takes (a_sign T.Ampersand ∷ a_sign T.Star ∷ a_sign T.Ampersand ∷ x ∷ []) (codes "x" ∷ [])
   pub a_function : Takes (a_sign T.Ampersand ∷ a_name (codes "f") ∷ a_sign T.OpenParenthesis ∷ a_sign T.CloseParenthesis ∷ []) (codes "f" ∷ [])

@@ -2,6 +2,7 @@
 //! what is held among them.
 #![tactic(auto)]
 
+mod before;
 mod laws;
 mod names;
 

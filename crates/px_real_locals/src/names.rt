@@ -1,12 +1,10 @@
-ghost use Rattle.std.specs.Prelude.{◌≡◌, ◌&&◌, ◌||◌, not, ℕ, List, Some, None, drop, map, option_map, IfOk, OnOk, if◌then◌else◌};
-ghost use Rattle.px_expressions.specs.Lexemes.{text_of};
-ghost use Rattle.px_real_expressions.specs.declared.terminal.Terminal.TheVariants as T;
-ghost use Rattle.px_real_expressions.specs.Lexemes.{same};
+ghost use Rattle.std.specs.Prelude.{◌≡◌, ◌≤◌, ◌||◌, ℕ, List, drop, map, option_map, IfOk, IfSome, OnOk};
 ghost use Rattle.px_real_symbols.specs.Symbols.{see};
 ghost use Rattle.px_real_types.specs.Scopes.{texts};
 ghost use Rattle.px_real_locals.specs.Addressed as Rules;
 ghost use Rattle.px_real_locals.specs.Views.{holds, is_taken};
 
+use crate::before::Before;
 use indexmap::IndexMap;
 use px_expressions::text;
 use px_real_declaring::reading::NoTypes;
@@ -22,40 +20,30 @@ pub struct AddressedNames<'a> {
     table: IndexMap<&'a [u8], ()>,
 }
 
-// Whether it can only end an operand.
-fn ends_operand(terminal: Terminal) -> bool
-    ensures { result ≡ Rules.ends_operand terminal }
+// Whether it makes what stands before it a pointer to something.
+fn goes_on(terminal: Terminal) -> bool
+    ensures { result ≡ Rules.goes_on terminal }
 {
-    match terminal {
-        Terminal::Name
-        | Terminal::Constant
-        | Terminal::String
-        | Terminal::CloseBracket
-        | Terminal::PlusPlus
-        | Terminal::MinusMinus => true,
-        _ => false,
-    }
-}
-
-// Whether it may stand between `&` and the name.
-fn is_passed(terminal: Terminal) -> bool
-    ensures { result ≡ Rules.is_passed terminal }
-{
-    match terminal {
-        Terminal::OpenParenthesis | Terminal::Extension => true,
-        _ => false,
-    }
-}
-
-// Whether what stands from this number on makes the name before it a pointer to something of which the address is taken.
-fn leads_on(source: &[u8], symbols: &[Symbol], at: usize) -> bool
-    ensures { result ≡ Rules.leads_on (drop at (map (see source.now) symbols.now)) }
-{
-    if at >= symbols.len() {
-        return false;
-    }
-    let terminal = symbols[at].terminal;
     terminal == Terminal::Arrow || terminal == Terminal::OpenBracket
+}
+
+// Whether what stands from this number on, behind at most so many brackets that close, makes the name before it a pointer to something of which the
+// address is taken.
+fn leads_on(source: &[u8], symbols: &[Symbol], opened: usize, start: usize) -> bool
+    ensures { result ≡ Rules.leads_on opened (drop start (map (see source.now) symbols.now)) }
+{
+    let mut left = opened;
+    for at in start..symbols.len() {
+        let terminal = symbols[at].terminal;
+        if left == 0 {
+            return goes_on(terminal);
+        }
+        if terminal != Terminal::CloseParenthesis {
+            return goes_on(terminal);
+        }
+        left -= 1;
+    }
+    false
 }
 
 // This name, which stands before the one with this number, if its address is taken.
@@ -63,25 +51,40 @@ fn name_of<'a>(
     source: &'a [u8],
     symbol: Symbol,
     symbols: &[Symbol],
+    opened: usize,
     behind: usize,
 ) -> Option<&'a [u8]>
-    ensures { option_map (λ n. n.now) result ≡ (if same symbol.terminal T.Name && not (Rules.leads_on (drop behind (map (see source.entry.now) symbols.now))) then Some (text_of source.entry.now symbol.start symbol.end) else None) }
+    ensures { option_map (λ n. n.now) result ≡ Rules.named opened (see source.entry.now symbol) (drop behind (map (see source.entry.now) symbols.now)) }
 {
-    if symbol.terminal == Terminal::Name && !leads_on(source, symbols, behind) {
+    if symbol.terminal == Terminal::Name && !leads_on(source, symbols, opened, behind) {
         Some(text(source, symbol.start, symbol.end))
     } else {
         None
     }
 }
 
+// How many brackets it opens, if it may stand between `&` and a name.
+fn passes(terminal: Terminal) -> Option<usize>
+    ensures { result ≡ Rules.passes terminal }
+    ensures few { IfSome result (λ k. k ≤ 1) }
+{
+    match terminal {
+        Terminal::OpenParenthesis => Some(1),
+        Terminal::Extension | Terminal::Real | Terminal::Imaginary => Some(0),
+        _ => None,
+    }
+}
+
 // The name that an `&` before the token with this number stands before, if its address is taken.
 fn taken<'a>(source: &'a [u8], symbols: &[Symbol], start: usize) -> Option<&'a [u8]>
-    ensures { option_map (λ n. n.now) result ≡ Rules.taken (drop start (map (see source.entry.now) symbols.now)) }
+    ensures { option_map (λ n. n.now) result ≡ Rules.taken 0 (drop start (map (see source.entry.now) symbols.now)) }
 {
+    let mut opened = 0;
     for at in start..symbols.len() {
         let symbol = symbols[at];
-        if !is_passed(symbol.terminal) {
-            return name_of(source, symbol, symbols, at + 1);
+        match passes(symbol.terminal) {
+            Some(more) => opened += more,
+            None => return name_of(source, symbol, symbols, opened, at + 1),
         }
     }
     None
@@ -90,7 +93,7 @@ fn taken<'a>(source: &'a [u8], symbols: &[Symbol], start: usize) -> Option<&'a [
 impl<'a> AddressedNames<'a> {
     // The name that an `&` before the token with this number stands before, if its address is taken.
     fn add_taken(&mut self, source: &'a [u8], symbols: &[Symbol], at: usize) -> Result<(), NoMemory>
-        ensures { OnOk result ((name : List ℕ) → holds self.new name ≡ (is_taken (Rules.taken (drop at (map (see source.entry.now) symbols.now))) name || holds self.old name)) }
+        ensures { OnOk result ((name : List ℕ) → holds self.new name ≡ (is_taken (Rules.taken 0 (drop at (map (see source.entry.now) symbols.now))) name || holds self.old name)) }
     {
         if let Some(name) = taken(source, symbols, at) {
             self.table.insert(name, ())?;
@@ -114,13 +117,13 @@ pub fn addressed_names<'a>(alloc: Global, on: Texts<'a>) -> Result<AddressedName
     let mut names = AddressedNames {
         table: IndexMap::new(alloc),
     };
-    let mut ended = false;
+    let mut before = Before::Sign;
     for at in 0..symbols.len() {
         let terminal = symbols[at].terminal;
-        if terminal == Terminal::Ampersand && !ended {
+        if terminal == Terminal::Ampersand && !before.ends_operand() {
             names.add_taken(on.source, &symbols, at + 1)?;
         }
-        ended = ends_operand(terminal);
+        before = before.behind(terminal);
     }
     Ok(names)
 }
