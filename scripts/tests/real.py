@@ -1,6 +1,6 @@
 #!/usr/bin/env python3
 """Hand-worked cases of `check --real`: what the program says of preprocessed C, a rule at a time. The cases stand in scripts/tests/real/;
-none of their answers is taken from the program.
+none of their answers is taken from the program. And the headers of the C library, as the compiler that is installed preprocesses them.
 
   scripts/tests/real.py                    tries the proved program, where there is one of today's sources; else a checked one
   scripts/tests/real.py PROGRAM [WORD..]   tries this one, on the cases that have one of the words alone
@@ -24,6 +24,8 @@ a report for its marks. In a report, `@x` is such a place, and a mark is a word,
 
 import os
 import re
+import shutil
+import subprocess
 import sys
 import tempfile
 
@@ -31,12 +33,17 @@ sys.dont_write_bytecode = True
 TESTS = os.path.dirname(os.path.realpath(__file__))
 sys.path.insert(0, os.path.dirname(TESTS))
 
-from programs import built, ended, equal, holds, room_to_run, try_all  # noqa: E402
+from programs import Untried, built, ended, equal, holds, room_to_run, try_all  # noqa: E402
 
 DATA = os.path.join(TESTS, "real")
 SECONDS = 120
 LIVE = "struct s *p = @m malloc(sizeof *p); if (!@t p) return;"
 LIVE_MARKS = "allocated@m true@t"
+# Those of C11, and one of POSIX.
+HEADERS = (
+    "assert complex ctype errno fenv float inttypes iso646 limits locale math setjmp signal stdalign stdarg stdatomic stdbool stddef "
+    "stdint stdio stdlib stdnoreturn string tgmath threads time uchar unistd wchar wctype"
+).split()
 # Before a body, and behind it.
 BEFORE = "void f(void) { int *z = 0;"
 BEHIND = "@end *z = 1; }"
@@ -165,8 +172,29 @@ def cases_of(name):
 
 def all_cases(words):
     names = sorted(it for it in os.listdir(DATA) if it.endswith((".bodies", ".files")))
-    cases = [case for name in names for case in cases_of(name)]
+    cases = [case for name in names for case in cases_of(name)] + [Header(name) for name in HEADERS]
     return [it for it in cases if not words or any(word in it.place for word in words)]
+
+
+class Header:
+    """A header of the C library, as a compiler preprocesses it: no fault, and nothing is left out."""
+
+    def __init__(self, name):
+        self.name = self.place = f"{name}.h"
+
+    def tried_on(self, program):
+        compiler = shutil.which(os.environ.get("CC", "cc"))
+        if not compiler:
+            raise Untried("no C compiler is installed")
+        text = f"#include <{self.name}>\nint f(void) {{ return 1; }}\n"
+        made = subprocess.run([compiler, "-E", "-x", "c", "-"], input=text.encode(), capture_output=True)
+        if made.returncode:
+            raise Untried(f"{compiler} has no {self.name}")
+        with tempfile.TemporaryDirectory() as folder:
+            with open(f"{folder}/a.c", "wb") as file:
+                file.write(made.stdout)
+            found = ended([program, "check", "--real", "a.c"], seconds=SECONDS, cwd=folder)
+        equal(found, (0, b"procedures 1, left out 0, bugs 0\n", b""))
 
 
 def main():
@@ -179,7 +207,7 @@ def main():
 
     def one(case):
         def it(tried):
-            equal(case.tried_on(tried), None)
+            case.tried_on(tried)
 
         it.__name__ = case.place
         return it

@@ -66,10 +66,8 @@ impl Before {
     {
         match terminal {
             Terminal::Name => self.behind_name(),
-            Terminal::Constant
-            | Terminal::String
-            | Terminal::PlusPlus
-            | Terminal::MinusMinus => Before::Operand,
+            Terminal::Constant | Terminal::String | Terminal::PlusPlus | Terminal::MinusMinus =>
+                Before::Operand,
             Terminal::CloseBracket => Before::Name,
             Terminal::OpenParenthesis => self.behind_opening(),
             Terminal::CloseParenthesis => self.behind_closing(),
