@@ -65,7 +65,7 @@ fn name_of<'a>(
 
 // How many brackets it opens, if it may stand between `&` and a name.
 fn passes(terminal: Terminal) -> Option<usize>
-    ensures { result ≡ Rules.passes terminal }
+    ensures passed { result ≡ Rules.passes terminal }
     ensures few { IfSome result (λ k. k ≤ 1) }
 {
     match terminal {
