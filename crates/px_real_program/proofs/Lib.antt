@@ -6,6 +6,7 @@ pub mod NameLemmas
 pub mod NamedLemmas
 pub mod NarrowLemmas
 pub mod NumberedLemmas
+pub mod ProgramLemmas
 pub mod RenumberLemmas
 pub mod SightLemmas
 pub mod SightedLemmas
