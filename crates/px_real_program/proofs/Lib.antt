@@ -1,4 +1,5 @@
 pub mod CalleeLemmas
+pub mod CarriedLemmas
 pub mod HiddenLemmas
 pub mod KeptLemmas
 pub mod LeftLemmas
@@ -11,5 +12,6 @@ pub mod RenumberLemmas
 pub mod SightLemmas
 pub mod SightedLemmas
 pub mod TextLemmas
+pub mod TypeLemmas
 pub mod WantedLemmas
 mod WorkedByReading

@@ -53,10 +53,10 @@ fn own_numbers<'b>(
 }
 
 // Procedures in the numbers of all that there may be come to be in these.
-fn narrow(
+fn narrow<'a>(
     run: &KnownRun,
-    texts: &IndexSet<&[u8]>,
-    numbers: &Numbers,
+    texts: &IndexSet<&'a [u8]>,
+    numbers: &Numbers<'a>,
     procedures: &mut [Procedure],
 ) -> Result<(), NoMemory>
     ensures { (files : List FileTree) → let fs = known_files files in AreKnown fs run.now → map (λ w. w.now) texts.now.keys ≡ Rules.all_texts files → AreNumbers fs (Rules.numbers_of files fs) numbers.now → map procedure_tree procedures.old ≡ Rules.procedures fs (Rules.all_numbers files fs) → OnOk result (map procedure_tree procedures.new ≡ Rules.own_procedures files fs) }
