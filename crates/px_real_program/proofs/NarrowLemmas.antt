@@ -87,6 +87,9 @@ type_past count n l =
 pub from_first : (ts : List (List ℕ)) (n : ℕ) → numbered_text 0 ts n ≡ slice_get ts n
 from_first ts n = ap (λ b. if b then None else slice_get ts (n - 0)) (le-ltb n 0 (omega arith)) ∙ ap (slice_get ts) (let e : n - 0 ≡ n = omega arith in e)
 
+pub texts_from_first : (ts : List (List ℕ)) → numbered_text 0 ts ≡ slice_get ts
+texts_from_first ts = λ k n. from_first ts n k
+
 module _ (files : List FileTree) (fs : List KnownFile) (own : NumbersTree) (s : Narrowing) (numbers : AreNumbers fs own s.numbers.now) (kept_are : own.kept ≡ kept_places 0 fs)
   (kept : s.kept ≡ length (kept_places 0 fs)) (types : s.types ≡ (struct_count fs + 1) * 3) (few : s.types < 4294967296) (texts : texts_seen s ≡ all_texts files) where
   abbrev all : NumbersTree

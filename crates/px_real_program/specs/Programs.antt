@@ -177,11 +177,6 @@ abbrev pub is_left_out : Callee → Bool
 is_left_out C.LeftOut = true
 is_left_out _ = false
 
--- the kept function that it is
-abbrev pub if_function : Callee → Option Callee
-if_function (C.Function file number) = Some (C.Function file number)
-if_function c = None
-
 abbrev pub out_name : List KnownFile → LeftTree → Option (List ℕ)
 out_name fs x = or_else x.defined.name (λ name. if is_left_out (called fs x.file name) then Some name else None) None
 

@@ -5,12 +5,12 @@ ghost use Rattle.px_typing.specs.declared.typing.ProgramFault.TheVariants.{Proce
 ghost use Rattle.px_real_program.specs.Numbers.{KnownFile as KnownTree, NumbersTree, known_files, kept_places};
 ghost use Rattle.px_real_program.specs.Programs as Rules;
 ghost use Rattle.px_real_program.specs.Steps.{AreKnown, IsWhole, AreNumbers, AreSeenStructs, IsNamed, left_view, names_kept};
-ghost use Rattle.px_real_program.specs.Keeping.{name_or_none};
 ghost use Rattle.px_real_program.specs.Views.{file_view, defined_view};
 
 use crate::file::RealFile;
 use crate::known::KnownRun;
 use crate::left::{LeftItem, left_of};
+use crate::linking::bytes_of;
 use crate::looking::Look;
 use crate::naming::Named;
 use crate::numbering::{behind, kept_count};
@@ -34,16 +34,6 @@ fn copied(alloc: Global, names: &IndexSet<&[u8]>, all: &mut Items<Name>) -> Resu
     Ok(())
 }
 
-// The name, or none.
-fn name_or_none(alloc: Global, name: &Option<Name>) -> Result<Name, NoMemory>
-    ensures { IfOk result (λ n. n ≡ name_or_none name.now) }
-{
-    match name {
-        Some(name) => Name::from_slice(alloc, name.as_slice()),
-        None => Ok(Name::new(alloc)),
-    }
-}
-
 // The names of those of a file that are kept are added.
 fn add_kept(
     alloc: Global,
@@ -56,7 +46,8 @@ fn add_kept(
 {
     for number in 0..kept.len() {
         if kept[number] {
-            names.push(name_or_none(alloc, &look.defined[number].name)?)?;
+            let name = bytes_of(&look.defined[number].name);
+            names.push(Name::from_slice(alloc, name)?)?;
         }
     }
     Ok(())

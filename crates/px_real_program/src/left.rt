@@ -1,6 +1,6 @@
 ghost use Rattle.std.specs.Prelude.{◌≡◌, ◌++◌, List, length, map, option_map, IfOk, OnOk};
-ghost use Rattle.px_real_links.specs.declared.callee.Callee.TheVariants as Called;
-ghost use Rattle.px_real_program.specs.Numbers.{KnownFile as KnownTree, NumbersTree, called};
+ghost use Rattle.px_real_links.specs.Files.{is_named};
+ghost use Rattle.px_real_program.specs.Numbers.{KnownFile as KnownTree, NumbersTree, all_links, weak_in, if_kept, called, called_id};
 ghost use Rattle.px_real_program.specs.Programs as Rules;
 ghost use Rattle.px_real_program.specs.Steps.{AreKnown, IsWhole, AreNumbers, reason_word, left_view};
 ghost use Rattle.px_real_program.specs.Views.{defined_view};
@@ -59,13 +59,42 @@ pub fn left_items<'b>(alloc: Global, run: &'b KnownRun<'b>) -> Result<Vec<LeftIt
     Ok(all)
 }
 
-// The kept function of a name in a file, if that has one.
-fn kept_there(run: &KnownRun, file: usize, name: &[u8]) -> Option<(usize, usize)>
-    ensures { (fs : List KnownTree) → AreKnown fs run.now → option_map (λ x. Called.Function x.0 x.1) result ≡ Rules.if_function (called fs file name.now) }
+// Whether the file with this number makes a name weak, or another's.
+fn is_weak_in(run: &KnownRun, file: usize, name: &[u8]) -> bool
+    ensures { (fs : List KnownTree) → AreKnown fs run.now → result ≡ is_named (weak_in (all_links fs) file) name.now }
+{
+    match run.links.get(file) {
+        Some(links) => is_weak_among(&links.weak, name),
+        None => false,
+    }
+}
+
+// Whether it is one of these names.
+fn is_weak_among(names: &[Name], name: &[u8]) -> bool
+    ensures { result ≡ is_named names.now name.now }
+{
+    for each in names {
+        if each.as_slice() == name {
+            return true;
+        }
+    }
+    false
+}
+
+// What a call of a name goes to in the file with this number.
+fn called_in(run: &KnownRun, file: usize, name: &[u8]) -> Callee
+    ensures { (fs : List KnownTree) → AreKnown fs run.now → result ≡ called fs file name.now }
 {
     match callee_of(&run.links, file, name) {
-        Callee::Function { file, number } if run.is_kept(file, number) => Some((file, number)),
-        _ => None,
+        Callee::Function { file: from, number } => {
+            if is_weak_in(run, file, name) || !run.is_kept(from, number) {
+                Callee::LeftOut
+            } else {
+                Callee::Function { file: from, number }
+            }
+        }
+        Callee::LeftOut => Callee::LeftOut,
+        Callee::Unknown => Callee::Unknown,
     }
 }
 
@@ -81,12 +110,26 @@ pub fn out_names<'b>(
     for item in left {
         if let Some(name) = &item.defined.name {
             let word = name.as_slice();
-            if kept_there(run, item.file, word).is_none() {
+            if called_in(run, item.file, word) == Callee::LeftOut {
                 names.insert(word)?;
             }
         }
     }
     Ok(names)
+}
+
+// The number of what is called.
+fn number_of(numbers: &Numbers, name: &[u8], callee: Callee) -> ProcId
+    ensures { (fs : List KnownTree) (m : NumbersTree) → AreNumbers fs m numbers.now → result ≡ called_id m name.now (if_kept fs callee) }
+{
+    match callee {
+        Callee::Function { file, number } => match numbers.kept_id(file, number) {
+            Some(id) => id,
+            None => ProcId(numbers.out.number(name)),
+        },
+        Callee::LeftOut => ProcId(numbers.out.number(name)),
+        Callee::Unknown => ProcId(numbers.unknown.number(name)),
+    }
 }
 
 /// An item that is left out, with its number.
@@ -101,10 +144,7 @@ pub fn left_of(
     let proc = match &item.defined.name {
         Some(name) => {
             let word = name.as_slice();
-            match kept_there(run, item.file, word) {
-                Some((file, number)) => numbers.kept_id(file, number),
-                None => Some(ProcId(numbers.out.number(word))),
-            }
+            Some(number_of(numbers, word, called_in(run, item.file, word)))
         }
         None => None,
     };

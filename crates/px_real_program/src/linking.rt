@@ -118,8 +118,8 @@ fn add_weak_head(
     Ok(())
 }
 
-// The bytes of a name, or none.
-fn bytes_of(name: &Option<Name>) -> &[u8]
+/// The bytes of a name, or none. Takes no memory.
+pub fn bytes_of(name: &Option<Name>) -> &[u8]
     ensures { result.now ≡ Rules.name_or_none name.now }
 {
     match name {

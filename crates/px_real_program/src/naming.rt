@@ -1,13 +1,13 @@
 ghost use Rattle.std.specs.Prelude.{◌≡◌, List, [], map, filter_map, option_map, length, IfOk, OnOk};
 ghost use Rattle.std.specs.Str.{bytes_eq};
 ghost use Rattle.indexmap.specs.IndexSet.{insert_all};
+ghost use Rattle.px_syntax.specs.ProgramTree.{procedure_tree};
 ghost use Rattle.px_typing.specs.Sights.{first_sights};
 ghost use Rattle.px_real_types.specs.Scopes.{texts as texts_in};
 ghost use Rattle.px_real_program.specs.Files.{FileTree, file_texts, texts_of};
 ghost use Rattle.px_real_program.specs.Numbers.{known_files};
-ghost use Rattle.px_real_program.specs.Sights.{Sight};
 ghost use Rattle.px_real_program.specs.Programs as Rules;
-ghost use Rattle.px_real_program.specs.Steps.{AreKnown, AreSeen, AreSeenStructs, IsNamed, left_view, numbered_text};
+ghost use Rattle.px_real_program.specs.Steps.{AreKnown, AreSeenStructs, IsNamed, left_view, numbered_text};
 ghost use Rattle.px_real_program.specs.Views.{file_view};
 
 use crate::file::RealFile;
@@ -16,11 +16,12 @@ use crate::left::{LeftItem, out_names};
 use crate::looking::tokens_of;
 use crate::numbering::kept_count;
 use crate::seen::SeenStructs;
-use crate::sights::Sights;
+use crate::sights::sights_of;
 use crate::types::{NamedTypes, named_types};
 use indexmap::IndexSet;
 use px_expressions::text;
 use px_real_types::Texts;
+use px_syntax::Procedure;
 use px_terms::NoMemory;
 use std::alloc::Global;
 
@@ -117,17 +118,18 @@ pub struct Named<'b> {
     pub types: NamedTypes,
 }
 
-/// What they name, by what is seen in their procedures.
+/// What these procedures name, which are in the numbers of all that there may be.
 pub fn named_by<'b>(
     alloc: Global,
     run: &KnownRun,
     seen: &SeenStructs,
     left: &[LeftItem<'b>],
     texts: &IndexSet<&'b [u8]>,
-    sights: &Sights,
+    procedures: &[Procedure],
 ) -> Result<Named<'b>, NoMemory>
-    ensures { (files : List FileTree) (ss : List Sight) → AreKnown (known_files files) run.now → AreSeenStructs (known_files files) seen.now → map left_view left.now ≡ Rules.left_in 0 (known_files files) → map (λ w. w.now) texts.now.keys ≡ Rules.all_texts files → AreSeen ss sights.now → IfOk result (IsNamed (length (Rules.out_names (known_files files))) (Rules.narrowed (known_files files) (Rules.all_numbers files (known_files files)) ss)) }
+    ensures { (files : List FileTree) → let fs = known_files files in AreKnown fs run.now → AreSeenStructs fs seen.now → map left_view left.now ≡ Rules.left_in 0 fs → map (λ w. w.now) texts.now.keys ≡ Rules.all_texts files → map procedure_tree procedures.now ≡ Rules.procedures fs (Rules.all_numbers files fs) → IfOk result (IsNamed (length (Rules.out_names fs)) (Rules.numbers_of files fs)) }
 {
+    let sights = sights_of(alloc, procedures)?;
     let mut out = out_names(alloc, run, left)?;
     let own = out.len();
     let kept = kept_count(run)? as usize;
@@ -136,11 +138,12 @@ pub fn named_by<'b>(
     add_named(texts, kept + texts.len(), &sights.functions, &mut unknown)?;
     let mut words = IndexSet::new(alloc);
     add_named(texts, 0, &sights.words, &mut words)?;
+    let types = named_types(alloc, run, seen, &sights.blocks)?;
     Ok(Named {
         out,
         own,
         unknown,
         words,
-        types: named_types(alloc, run, seen, &sights.blocks)?,
+        types,
     })
 }

@@ -1,9 +1,9 @@
-ghost use Rattle.std.specs.Prelude.{◌∷◌, [], map, flat_map, option_map, OnOk};
+ghost use Rattle.std.specs.Prelude.{◌∷◌, [], map, flat_map, option_map, IfOk, OnOk};
 ghost use Rattle.px_syntax.specs.TypedTree.{expressions_of, arguments_of, statements_of};
 ghost use Rattle.px_syntax.specs.ProgramTree.{procedure_tree};
 ghost use Rattle.px_syntax.specs.TypedViews.{typed_expression, typed_argument, typed_condition, typed_place, typed_statement};
 ghost use Rattle.px_real_program.specs.Sights as Rules;
-ghost use Rattle.px_real_program.specs.Steps.{Sees, links_seen, relations_seen, cells_seen, conditions_seen};
+ghost use Rattle.px_real_program.specs.Steps.{Sees, AreSeen, links_seen, relations_seen, cells_seen, conditions_seen};
 
 use indexmap::IndexSet;
 use px_syntax::{
@@ -11,6 +11,7 @@ use px_syntax::{
     TypedStatement,
 };
 use px_terms::{NoMemory, TypeId, ValueType};
+use std::alloc::Global;
 
 /// The numbers that stand in trees, each once, in the order of first sight: of functions, of block types and of words.
 #[derive(Drop)]
@@ -312,8 +313,8 @@ fn see_statement(statement: &TypedStatement, sights: &mut Sights) -> Result<(), 
     }
 }
 
-/// All that stand in a procedure, in its types first.
-pub fn see_procedure(procedure: &Procedure, sights: &mut Sights) -> Result<(), NoMemory>
+// All that stand in a procedure, in its types first.
+fn see_procedure(procedure: &Procedure, sights: &mut Sights) -> Result<(), NoMemory>
     ensures { OnOk result (Sees sights.old sights.new (Rules.in_procedure (procedure_tree procedure.now))) }
 {
     if let Some(gives) = procedure.result {
@@ -322,4 +323,19 @@ pub fn see_procedure(procedure: &Procedure, sights: &mut Sights) -> Result<(), N
     see_values(procedure.parameters.as_slice(), sights)?;
     see_values(procedure.body.locals.as_slice(), sights)?;
     see_statement(&procedure.body.statement, sights)
+}
+
+/// All that stand in procedures.
+pub fn sights_of(alloc: Global, procedures: &[Procedure]) -> Result<Sights, NoMemory>
+    ensures { IfOk result (λ s. AreSeen (flat_map Rules.in_procedure (map procedure_tree procedures.now)) s) }
+{
+    let mut sights = Sights {
+        functions: IndexSet::new(alloc),
+        blocks: IndexSet::new(alloc),
+        words: IndexSet::new(alloc),
+    };
+    for procedure in procedures {
+        see_procedure(procedure, &mut sights)?;
+    }
+    Ok(sights)
 }

@@ -4,7 +4,7 @@ use Rattle.px_syntax.specs.declared.program.Procedure.{Procedure}
 use Rattle.px_syntax.specs.ProgramTree.{procedure_tree}
 use Rattle.px_real_program.specs.Sights.{in_procedure}
 use Rattle.px_real_program.proofs.SightLemmas.{one_seen, all_seen, are_seen}
-use Rattle.px_real_program.proofs.program.sights_of.Goals as goal
+use Rattle.px_real_program.proofs.sights.sights_of.Goals as goal
 
 pub loop-procedure-preserved : goal.loop-procedure-preserved
 loop-procedure-preserved c =

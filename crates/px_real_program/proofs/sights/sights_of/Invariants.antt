@@ -4,7 +4,7 @@ use Rattle.px_syntax.specs.ProgramTree.{procedure_tree}
 use Rattle.px_real_program.specs.Sights.{in_procedure}
 use Rattle.px_real_program.specs.declared.sights.Sights.{Sights}
 use Rattle.px_real_program.specs.Steps.{Sees}
-use Rattle.px_real_program.proofs.program.sights_of.Given as goal
+use Rattle.px_real_program.proofs.sights.sights_of.Given as goal
 
 -- what is seen behind those that are left is seen behind all
 abbrev pub invariant-loop-procedure : goal.invariant-loop-procedure
