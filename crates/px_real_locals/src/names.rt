@@ -35,11 +35,12 @@ fn leads_on(source: &[u8], symbols: &[Symbol], opened: usize, start: usize) -> b
     let mut left = opened;
     for at in start..symbols.len() {
         let terminal = symbols[at].terminal;
+        let ends = goes_on(terminal);
         if left == 0 {
-            return goes_on(terminal);
+            return ends;
         }
         if terminal != Terminal::CloseParenthesis {
-            return goes_on(terminal);
+            return ends;
         }
         left -= 1;
     }
