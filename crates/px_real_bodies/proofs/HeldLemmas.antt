@@ -1,5 +1,5 @@
 -- What is read of held tokens is what the grammar says of them.
-use Rattle.std.proofs.Common.{◌≡◌, ◌∙◌, refl, sym, ap, subst, ℕ, List, [], ◌∷◌, map, take, drop, Bool, true, false, not, Option, Some, None, Result, Ok, Err}
+use Rattle.std.proofs.Common.{◌≡◌, ◌∙◌, refl, sym, ap, subst, ℕ, List, [], ◌∷◌, length, map, take, drop, Bool, true, false, not, Option, Some, None, Result, Ok, Err, arith}
 use Rattle.std.specs.Prelude.{IsErrOf, if◌then◌else◌}
 use Rattle.px_expressions.specs.Reading.{or_else}
 use Rattle.px_real_expressions.specs.Lexemes.{Lexeme}
@@ -24,7 +24,7 @@ use Rattle.px_real_declaring.specs.Whole.{IsOneOf, NoneIs}
 use Rattle.px_real_names.specs.Enumerated.{as_whole}
 use Rattle.px_real_names.proofs.EnumeratedExact.{whole_of}
 use Rattle.px_real_scopes.specs.Steps.{is_memory}
-use Rattle.px_real_bodies.specs.Phrases.{are_extensions, if_declaring, is_out_of_memory}
+use Rattle.px_real_bodies.specs.Phrases.{are_extensions, are_loose, if_declaring, is_out_of_memory}
 
 -- ---- expressions
 
@@ -70,10 +70,19 @@ no_declaration_by types ts D.NoMemory h g = absurd cc
 no_declaration_by types ts (D.NotADeclaration at) h g = no_declaration_read types ts h
 no_declaration_by types ts (D.Deep at) h g = no_declaration_read types ts h
 
--- a declaration of nothing but `__extension__` declares nothing
-pub declaring_by : (d : DeclarationTree) (ss : List SpecifierTree) (xs : List DeclaredTree) (b : Bool) → d ≡ declaration ss xs → b ≡ are_extensions ss → if_declaring d ≡ (if not b then Some d else None)
+-- names before which nothing but `__extension__` and attributes stands are no declaration's
+pub declaring_by : (d : DeclarationTree) (ss : List SpecifierTree) (xs : List DeclaredTree) (b : Bool) → d ≡ declaration ss xs → b ≡ are_loose ss xs → if_declaring d ≡ (if not b then Some d else None)
 declaring_by d ss xs b is h = ap if_declaring is ∙ ap (λ z. if z then None else Some (declaration ss xs)) (sym h) ∙ sym (ap (λ z. if not b then Some z else None) is ∙ turned b (declaration ss xs))
   where
     turned : (b : Bool) (z : DeclarationTree) → (if not b then Some z else None) ≡ (if b then None else Some z)
     turned true z = refl
     turned false z = refl
+
+-- there is no name, or there is one
+pub none_loose : {A : Type 0} (view : A → DeclaredTree) (ss : List SpecifierTree) (xs : List A) → length xs ≡ 0 → false ≡ are_loose ss (map view xs)
+none_loose view ss [] h = refl
+none_loose view ss (x ∷ xs) h = absurd (omega (arith, h))
+
+pub some_loose : {A : Type 0} (view : A → DeclaredTree) (ss : List SpecifierTree) (xs : List A) → (length xs ≡ 0 → ⊥) → are_extensions ss ≡ are_loose ss (map view xs)
+some_loose view ss [] h = absurd (h refl)
+some_loose view ss (x ∷ xs) h = refl

@@ -10,9 +10,9 @@ use Rattle.px_real_expressions.specs.ExpressionTree.{ExpressionTree}
 use Rattle.px_real_expressions.specs.Reading.{expression_at}
 use Rattle.px_real_reading.specs.declared.reading.ExpressionFault.{ExpressionFault}
 use Rattle.px_real_reading.specs.declared.reading.ExpressionFault.TheVariants as E
-use Rattle.px_real_declarations.specs.Roles.{assembler_words}
+use Rattle.px_real_declarations.specs.Roles.{attribute_words, assembler_words}
 use Rattle.px_real_declarations.specs.Grammar.{Types}
-use Rattle.px_real_declarations.specs.DeclarationTree.{SpecifierTree, keyword, type_name, group, tagged, DeclarationTree, declaration, assertion}
+use Rattle.px_real_declarations.specs.DeclarationTree.{SpecifierTree, keyword, type_name, group, tagged, DeclaredTree, DeclarationTree, declaration, assertion}
 use Rattle.px_real_declarations.specs.Reading.{declaration_at}
 use Rattle.px_real_declaring.specs.Items.{nesting_limit}
 use Rattle.px_real_names.specs.Enumerated.{as_whole}
@@ -37,17 +37,23 @@ expression_in st ts = as_whole (expression_at nesting_limit (all_tabled st ts))
 
 -- ---- a declaration or an expression
 
--- `__extension__` stands before both
+-- `__extension__` stands before both, and an attribute that a label has before a statement
 abbrev pub is_extension : SpecifierTree → Bool
 is_extension (keyword word site) = is_in (codes "__extension__" ∷ []) word
+is_extension (group g) = is_in attribute_words g.word
 is_extension _ = false
 
 abbrev pub are_extensions : List SpecifierTree → Bool
 are_extensions [] = true
 are_extensions (s ∷ ss) = is_extension s && are_extensions ss
 
+-- whether nothing but these stands before names
+abbrev pub are_loose : List SpecifierTree → List DeclaredTree → Bool
+are_loose ss [] = false
+are_loose ss (x ∷ xs) = are_extensions ss
+
 abbrev pub if_declaring : DeclarationTree → Option DeclarationTree
-if_declaring (declaration ss xs) = if are_extensions ss then None else Some (declaration ss xs)
+if_declaring (declaration ss xs) = if are_loose ss xs then None else Some (declaration ss xs)
 if_declaring (assertion g) = Some (assertion g)
 
 abbrev pub declaration_in : Scopes → List Lexeme → Option DeclarationTree

@@ -1,16 +1,16 @@
 ghost use Rattle.std.specs.Prelude.{◌≡◌, List, map, option_map, Some, None, IfOk, if◌then◌else◌};
 ghost use Rattle.px_expressions.specs.Terminals.{is_in};
 ghost use Rattle.px_real_expressions.specs.Lexemes.{Lexeme};
-ghost use Rattle.px_real_declarations.specs.Roles.{assembler_words};
+ghost use Rattle.px_real_declarations.specs.Roles.{attribute_words, assembler_words};
 ghost use Rattle.px_real_reading.specs.Trees.{expression_tree};
-ghost use Rattle.px_real_declaring.specs.Trees.{specifier_tree, declaration_tree};
+ghost use Rattle.px_real_declaring.specs.Trees.{specifier_tree, declared_tree, declaration_tree};
 ghost use Rattle.px_real_types.specs.Scopes.{texts};
 ghost use Rattle.px_real_bodies.specs.Phrases as Rules;
 ghost use Rattle.px_real_bodies.specs.Phrases.{all_tabled};
 
 use px_base::Site;
 use px_expressions::text;
-use px_real_declaring::{Declaration, Specifier, declaration_of};
+use px_real_declaring::{Declaration, Declared, Specifier, declaration_of};
 use px_real_reading::{Expression, ExpressionFault, expression_of};
 use px_real_scopes::{Scopes, is_memory};
 use px_real_types::Texts;
@@ -46,12 +46,19 @@ pub fn expression_in(
     }
 }
 
-// Whether it is `__extension__`, which stands before declarations and expressions.
+fn is_attribute_word(word: &[u8]) -> bool
+    ensures { result ≡ is_in attribute_words word.now }
+{
+    word == b"__attribute__".as_slice() || word == b"__attribute".as_slice()
+}
+
+// Whether it is `__extension__` or an attribute, which stand before declarations and before what is none.
 fn is_extension(specifier: &Specifier) -> bool
     ensures { (all : List Lexeme) → result ≡ Rules.is_extension (specifier_tree all specifier.now) }
 {
     match specifier {
         Specifier::Keyword { word, .. } => word.as_slice() == b"__extension__".as_slice(),
+        Specifier::Group(group) => is_attribute_word(group.word.as_slice()),
         _ => false,
     }
 }
@@ -68,12 +75,25 @@ fn are_extensions(specifiers: &[Specifier]) -> bool
     true
 }
 
+// Whether nothing but these stands before names.
+fn are_loose(specifiers: &[Specifier], declared: &[Declared]) -> bool
+    ensures { (all : List Lexeme) → result ≡ Rules.are_loose (map (specifier_tree all) specifiers.now) (map (declared_tree all) declared.now) }
+{
+    if declared.len() == 0 {
+        return false;
+    }
+    are_extensions(specifiers)
+}
+
 // Whether it declares something, or asserts it.
 fn is_declaring(declaration: &Declaration) -> bool
     ensures { (all : List Lexeme) → Rules.if_declaring (declaration_tree all declaration.now) ≡ (if result then Some (declaration_tree all declaration.now) else None) }
 {
     match declaration {
-        Declaration::Declaration { specifiers, .. } => !are_extensions(specifiers),
+        Declaration::Declaration {
+            specifiers,
+            declared,
+        } => !are_loose(specifiers, declared),
         Declaration::Assertion(_) => true,
     }
 }
