@@ -22,8 +22,8 @@ use Rattle.px_real_bodies.specs.Declarations.{lengths, is_constant, is_length, v
 -- ---- constant expressions
 
 abbrev pub all_constant : Environment → List LinkTree → Bool
-all_constant env [] = true
-all_constant env (l ∷ ls) = is_constant env l.operand && all_constant env ls
+all_constant d [] = true
+all_constant d (l ∷ ls) = is_constant d l.operand && all_constant d ls
 
 and_true : (a : Bool) → a ≡ (a && true)
 and_true true = refl
@@ -36,6 +36,11 @@ chain_constant env e (l ∷ ls) = chain_constant env (binary l.operator l.site e
     by : (a : Bool) → ((a && is_constant env l.operand) && all_constant env ls) ≡ (a && (is_constant env l.operand && all_constant env ls))
     by true = refl
     by false = refl
+
+-- an operator with these operands
+pub binary_constant : (env : Environment) (e : ExpressionTree) (o : Operator) (site : Site) (a : ExpressionTree) (ls : List LinkTree) (r : ExpressionTree) (b : Bool) → e ≡ binary o site (chained a ls) r →
+    b ≡ (is_constant env a && all_constant env ls) → is_constant env e ≡ (b && is_constant env r)
+binary_constant env e o site a ls r b is both = ap (is_constant env) is ∙ ap (λ z. z && is_constant env r) (chain_constant env a ls ∙ sym both)
 
 -- what ends in a suffix is none
 pub suffix_varying : (env : Environment) (e : ExpressionTree) (s : SuffixTree) → is_constant env (suffixed e s) ≡ false
