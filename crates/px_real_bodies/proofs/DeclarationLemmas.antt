@@ -1,6 +1,6 @@
 -- What a declaration does, by what the code finds of it.
-use Rattle.std.proofs.Common.{◌≡◌, ◌∙◌, refl, sym, ap, subst, ℕ, ◌+◌, Bool, true, false, List, [], ◌∷◌, ◌++◌, Option, Some, None, Result, Err, OnOk, append-nil}
-use Rattle.std.specs.Prelude.{codes}
+use Rattle.std.proofs.Common.{◌≡◌, ◌∙◌, refl, sym, ap, subst, ℕ, ◌+◌, Bool, true, false, List, [], ◌∷◌, ◌++◌, Option, Some, None, Result, Err, OnOk, append-nil, ◌||◌}
+use Rattle.std.specs.Prelude.{codes, if◌then◌else◌}
 use Rattle.px_base.specs.declared.trace.Site.{Site}
 use Rattle.px_terms.specs.declared.types.ValueType.{ValueType}
 use Rattle.px_expressions.specs.Reading.{or_else}
@@ -14,11 +14,13 @@ use Rattle.px_real_declaring.specs.declared.reading.DeclarationFault.{Declaratio
 use Rattle.px_real_declaring.specs.declared.reading.DeclarationFault.TheVariants as D
 use Rattle.px_real_declaring.specs.Items.{nesting_limit}
 use Rattle.px_real_types.specs.declared.shape.ProfileType.{ProfileType}
+use Rattle.px_real_types.specs.Shapes.{in_profile}
 use Rattle.px_real_types.specs.declared.known.Known.{Known}
 use Rattle.px_real_values.specs.Environment.{Environment, value_type}
 use Rattle.px_real_values.specs.Operands.{stop}
 use Rattle.px_real_effects.specs.Effects.{evaluated, initialised, argument_of}
-use Rattle.px_real_scopes.specs.Scopes.{Scopes, MeaningTree}
+use Rattle.px_real_scopes.specs.Scopes.{Scopes, MeaningTree, an_object}
+use Rattle.px_real_scopes.specs.Lookups.{seen}
 use Rattle.px_real_scopes.specs.Knowing.{type_word, specified_known}
 use Rattle.px_real_scopes.specs.Entering.{with_specifiers}
 use Rattle.px_real_scopes.specs.Behind.{with_name, with_local, declared_meaning, declares_none, IsBehind}
@@ -26,7 +28,7 @@ use Rattle.px_real_scopes.specs.Steps.{is_memory}
 use Rattle.px_real_bodies.specs.Places.{Function, Place, in_scopes, with_one_local, Walk, Walked, without_statements}
 use Rattle.px_real_bodies.specs.Phrases.{expression_in, no_place}
 use Rattle.px_real_bodies.specs.Values.{env, unread_at, initialiser_parts}
-use Rattle.px_real_bodies.specs.Declarations.{cleanup_of, groups_in, lengths, unbraced, is_automatic, varies, stops_at, local_type, begun, parts_if, with_local_of, with_other, with_stop, with_named, with_declarator, with_declarators, declared}
+use Rattle.px_real_bodies.specs.Declarations.{is_stored, cleanup_of, groups_in, lengths, unbraced, is_automatic, varies, stops_at, local_type, begun, parts_if, with_local_of, with_other, with_stop, with_named, with_declarator, with_declarators, declared}
 use Rattle.px_real_bodies.proofs.WalkLemmas.{walk, walks, walks_as, one_walked, or_walked, walked_none}
 
 -- unless memory ran out, nothing is in scope, and what was still is
@@ -105,6 +107,15 @@ module _ (f : Function) (st : Scopes) (begins : Bool) (value : Option (List Lexe
 
   pub value_parts : (ts : List Lexeme) → begins ≡ true → value ≡ Some ts → initialiser_parts f st nesting_limit no_place ts ≡ parts_if f begins st value
   value_parts ts h is = sym (ap (λ b. parts_if f b st value) h ∙ ap (parts_if f true st) is)
+
+-- ---- the type of a local
+
+module _ (f : Function) (ss : List SpecifierTree) (text : List ℕ) (m : MeaningTree) (k : Known) (word : List ℕ) (is : m ≡ an_object k word) where
+  pub no_local : (is_stored ss || f.is_addressed text) ≡ true → None ≡ local_type f ss text m
+  no_local h = sym (ap (local_type f ss text) is ∙ ap (λ b. if b then None else in_profile (seen k)) h)
+
+  pub a_local : (is_stored ss || f.is_addressed text) ≡ false → (o : Option ProfileType) → o ≡ in_profile (seen k) → o ≡ local_type f ss text m
+  a_local h o e = e ∙ sym (ap (local_type f ss text) is ∙ ap (λ b. if b then None else in_profile (seen k)) h)
 
 -- ---- one more local
 

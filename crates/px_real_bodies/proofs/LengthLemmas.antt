@@ -8,7 +8,7 @@ use Rattle.px_real_expressions.specs.ExpressionTree.{ExpressionTree, binary}
 use Rattle.px_real_symbols.specs.declared.held.Span.{Span}
 use Rattle.px_real_symbols.specs.Symbols.{held_in}
 use Rattle.px_real_reading.specs.Trees.{LinkTree, SuffixTree, an_index, a_call, a_member, a_pointer_member, a_step, chained, suffixed}
-use Rattle.px_real_declarations.specs.DeclarationTree.{DeclaratorTree}
+use Rattle.px_real_declarations.specs.DeclarationTree.{DeclaratorTree, no_name}
 use Rattle.px_real_declaring.specs.declared.tree.Suffix.{Suffix}
 use Rattle.px_real_declaring.specs.declared.tree.Suffix.TheVariants as S
 use Rattle.px_real_declaring.specs.Trees as Trees
@@ -22,8 +22,8 @@ use Rattle.px_real_bodies.specs.Declarations.{lengths, is_constant, is_length, v
 -- ---- constant expressions
 
 abbrev pub all_constant : Environment → List LinkTree → Bool
-all_constant env [] = true
-all_constant env (l ∷ ls) = is_constant env l.operand && all_constant env ls
+all_constant d [] = true
+all_constant d (l ∷ ls) = is_constant d l.operand && all_constant d ls
 
 and_true : (a : Bool) → a ≡ (a && true)
 and_true true = refl
@@ -38,12 +38,12 @@ chain_constant env e (l ∷ ls) = chain_constant env (binary l.operator l.site e
     by false = refl
 
 -- what ends in a suffix is none
-pub suffix_varying : (env : Environment) (e : ExpressionTree) (s : SuffixTree) → is_constant env (suffixed e s) ≡ false
-suffix_varying env e (an_index s a) = refl
-suffix_varying env e (a_call s es) = refl
-suffix_varying env e (a_member s f) = refl
-suffix_varying env e (a_pointer_member s f) = refl
-suffix_varying env e (a_step o s) = refl
+pub suffix_varying : (d : Environment) (e : ExpressionTree) (s : SuffixTree) → is_constant d (suffixed e s) ≡ false
+suffix_varying d e (an_index s a) = refl
+suffix_varying d e (a_call s es) = refl
+suffix_varying d e (a_member s f) = refl
+suffix_varying d e (a_pointer_member s f) = refl
+suffix_varying d e (a_step o s) = refl
 
 pub ruleset constants = (chain_constant, suffix_varying)
 
@@ -83,16 +83,13 @@ module _ (f : Function) (st : Scopes) where
   length_unread (t ∷ ts) some none = sym (ap (λ o. or_else o (is_constant (env f st)) false) none)
 
   -- the suffix at the front
-  module _ (all : List Lexeme) (s : Suffix) (ss : List Suffix) where
-    pub suffix_found : (site : Site) (held : Span) → s ≡ S.Array site held → is_length f st (held_in all held) ≡ false → Some site ≡ varies f st (lengths_of all (s ∷ ss))
-    suffix_found site held is h = sym (ap (λ z. varies f st (lengths_of all (z ∷ ss))) is ∙ ap (λ b. if b then varies f st (lengths_of all ss) else Some site) h)
-
-    pub suffix_constant : (site : Site) (held : Span) → s ≡ S.Array site held → is_length f st (held_in all held) ≡ true → varies f st (lengths_of all (s ∷ ss)) ≡ varies f st (lengths_of all ss)
-    suffix_constant site held is h = ap (λ z. varies f st (lengths_of all (z ∷ ss))) is ∙ ap (λ b. if b then varies f st (lengths_of all ss) else Some site) h
-
-  pub suffix_passed : (all : List Lexeme) (s : Suffix) (ss : List Suffix) → ((site : Site) (held : Span) → s ≡ S.Array site held → ⊥) → varies f st (lengths_of all (s ∷ ss)) ≡ varies f st (lengths_of all ss)
-  suffix_passed all (S.Array site held) ss h = absurd (h site held refl)
-  suffix_passed all (S.Function site held) ss h = refl
+  pub suffix_next : (all : List Lexeme) (s : Suffix) (ss : List Suffix) → varies f st (lengths_of all (s ∷ ss)) ≡ or_else (varies f st (lengths (Trees.suffixed all no_name s))) (λ site. Some site) (varies f st (lengths_of all ss))
+  suffix_next all (S.Array site held) ss = by (is_length f st (held_in all held))
+    where
+      by : (b : Bool) → (if b then varies f st (lengths_of all ss) else Some site) ≡ or_else (if b then None else Some site) (λ at. Some at) (varies f st (lengths_of all ss))
+      by true = refl
+      by false = refl
+  suffix_next all (S.Function site held) ss = refl
 
   -- where none of a declarator varies, those of the suffixes behind it count
   pub suffixes_vary : (all : List Lexeme) (d : DeclaratorTree) (ss : List Suffix) → varies f st (lengths d) ≡ None → varies f st (lengths (Trees.all_suffixed all d ss)) ≡ varies f st (lengths_of all ss)

@@ -1,5 +1,5 @@
 -- What is looked for in a list, from its front on.
-use Rattle.std.proofs.Common.{◌≡◌, ◌∙◌, refl, sym, ap, ℕ, zero, suc, ◌+◌, ◌-◌, ◌<◌, ◌≤◌, Bool, true, false, ◌&&◌, List, [], ◌∷◌, ◌++◌, map, length, take, drop, get_or, Option, Some, None, is_some, nat_eq, arith, append_assoc, length-drop}
+use Rattle.std.proofs.Common.{◌≡◌, ◌∙◌, refl, sym, ap, ℕ, zero, suc, ◌+◌, ◌-◌, ◌<◌, ◌≤◌, Bool, true, false, ◌&&◌, ◌||◌, subst, List, [], ◌∷◌, ◌++◌, map, length, take, drop, get_or, Option, Some, None, is_some, nat_eq, arith, append_assoc, length-drop}
 use Rattle.std.specs.Prelude.{if◌then◌else◌}
 use Rattle.std.proofs.lemmas.Bool.{eqb-true, true≢false}
 use Rattle.std.proofs.lemmas.List.{drop_more, drop_all, take_more}
@@ -10,7 +10,7 @@ use Rattle.px_real_expressions.specs.Lexemes.{Lexeme, same}
 use Rattle.px_real_expressions.specs.Held.{closing, closes_something}
 use Rattle.px_real_symbols.specs.Symbols.{held_in}
 use Rattle.px_real_symbols.proofs.FrontLemmas.{drop_mapped}
-use Rattle.px_real_bodies.specs.Values.{opened, onto_first, separated, behind_equal, without_last, behind_first, begins_list, listed}
+use Rattle.px_real_bodies.specs.Values.{opened, onto_first, separated, behind_equal, without_last, behind_first, begins_list, listed, without_designators}
 use Rattle.px_real_bodies.specs.Declarations.{only_of}
 
 module _ {A B C : Type 0} (view : A → B) (f : List B → C) (xs : List A) (i : ℕ) (all : C) (so_far : f (map view (drop i xs)) ≡ all) where
@@ -82,6 +82,17 @@ equal_later (suc n) t ts h = refl
 pub equal_here : (n : ℕ) (t : Lexeme) (ts : List Lexeme) → n ≡ 0 → same t.terminal K.Equal ≡ true → behind_equal n (t ∷ ts) ≡ ts
 equal_here zero t ts h g = ap (λ z. if z then ts else behind_equal (opened zero t) ts) g
 equal_here (suc n) t ts h g = absurd (omega arith)
+
+-- what an item has behind its designators, by the first of its tokens
+pub behind_designators : {A : Type 0} (view : A → Lexeme) (xs : List A) (ts : List Lexeme) (x : A) → map view xs ≡ ts → 2 ≤ length xs → x ≡ get_or xs 0 x →
+    (same (view x).terminal K.Dot || same (view x).terminal K.OpenBracket) ≡ true → behind_equal 0 ts ≡ without_designators ts
+behind_designators view [] ts x e many is h = absurd (omega (arith, many))
+behind_designators view (y ∷ []) ts x e many is h = absurd (omega (arith, many))
+behind_designators view (y ∷ z ∷ ys) ts x e many is h =
+    let us = map view ys in
+    let here : (same (view y).terminal K.Dot || same (view y).terminal K.OpenBracket) ≡ true = ap (λ k. same (view k).terminal K.Dot || same (view k).terminal K.OpenBracket) (sym is) ∙ h in
+    subst (λ vs. behind_equal 0 vs ≡ without_designators vs) e
+    (sym (ap (λ b. if b then behind_equal 0 (view y ∷ view z ∷ us) else (if same (view z).terminal K.Colon then us else view y ∷ view z ∷ us)) here))
 
 -- ---- braces
 

@@ -143,6 +143,12 @@ module _ (f : Function) (run : Run) where
   once_same w v site a b h g true = g
   once_same w v site a b h g false = h
 
+  -- what has labels before it, and what is a `Stop` for them
+  labelled_same : (w v : Walk) (a b : Place) → SameScopes a b → SameScopes w.after v.after → (o : Option (List ℕ × Site))
+      → SameScopes (or_else o (λ x. stopping f x.0 x.1 [] a) w).after (or_else o (λ x. stopping other x.0 x.1 [] b) v).after
+  labelled_same w v a b h g (Some x) = h
+  labelled_same w v a b h g None = g
+
   mutual
     done_same : (loop : Bool) (s : StatementTree) (a b : Place) → SameScopes a b → SameScopes (done f loop s a).after (done other loop s b).after
     done_same loop empty a b h = h
@@ -164,11 +170,7 @@ module _ (f : Function) (run : Run) where
     done_same loop (break site) a b h = both_stay a b _ _ h (jump_stays f loop T.break (codes "break") site a) (jump_stays other loop T.break (codes "break") site b)
     done_same loop (continue site) a b h = both_stay a b _ _ h (jump_stays f loop T.continue (codes "continue") site a) (jump_stays other loop T.continue (codes "continue") site b)
     done_same loop (return site held) a b h = both_stay a b _ _ h (returned_stays f site held a) (returned_stays other site held b)
-    done_same loop (labelled ls s) a b h = by (label_stop ls)
-      where
-        by : (o : Option (List ℕ × Site)) → SameScopes (or_else o (λ x. stopping f x.0 x.1 [] a) (done f loop s a)).after (or_else o (λ x. stopping other x.0 x.1 [] b) (done other loop s b)).after
-        by (Some x) = h
-        by None = done_same loop s a b h
+    done_same loop (labelled ls s) a b h = labelled_same (done f loop s a) (done other loop s b) a b h (done_same loop s a b h) (label_stop ls)
     done_same loop (unread ts) a b h = h
 
     all_same : (loop : Bool) (ss : StatementTrees) (a b : Place) → SameScopes a b → SameScopes (all_done f loop ss a).after (all_done other loop ss b).after

@@ -17,7 +17,7 @@ use Rattle.px_real_bodies.proofs.TabledLemmas.{untabled_are}
 
 -- tokens spell one type
 one_spelled : (scope : Meanings) (types : Types) (ts : List Lexeme) (a b : Spelled) → Spells scope types ts a → Spells scope types ts b → a ≡ b
-one_spelled scope types ts a b (spells {d} m e) (spells {d1} m1 e1) = e ∙ ap (spelled_in scope) (one_parameter types nesting_limit ts d d1 m m1) ∙ sym e1
+one_spelled scope types ts a b (spells {d} m e) (spells {d = d1} m1 e1) = e ∙ ap (spelled_in scope) (one_parameter types nesting_limit ts d d1 m m1) ∙ sym e1
 one_spelled scope types ts a b (spells {d} m e) (spells_nothing none e1) = absurd (none d m)
 one_spelled scope types ts a b (spells_nothing none e) (spells {d} m e1) = absurd (none d m)
 one_spelled scope types ts a b (spells_nothing none e) (spells_nothing none1 e1) = e ∙ sym e1

@@ -82,10 +82,11 @@ fn put_stop<F: Function>(
 ) -> Result<(), NoMemory>
     ensures { (at : At) → at.scopes ≡ scopes.now → OnOk result (map typed_statement into.new.items ≡ map typed_statement into.old.items ++ Rules.with_stop (F.sees function.now) at (Rules.stops_at (F.sees function.now) scopes.now (map (specifier_tree (texts on.entry)) specifiers.now) (declared_tree (texts on.entry) declared.now))) }
 {
-    match stops_at(alloc, function, scopes, on, specifiers, declared)? {
-        Some(Stopping { word, site }) => {
-            let word = function.word_number(word);
-            put_evaluated(alloc, stop(Vec::new(alloc), word, site), into)
+    let stops = stops_at(alloc, function, scopes, on, specifiers, declared)?;
+    match stops {
+        Some(found) => {
+            let word = function.word_number(found.word);
+            put_evaluated(alloc, stop(Vec::new(alloc), word, found.site), into)
         }
         None => Ok(()),
     }

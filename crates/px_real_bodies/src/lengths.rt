@@ -3,7 +3,7 @@ ghost use Rattle.px_real_expressions.specs.ExpressionTree.{ExpressionTree};
 ghost use Rattle.px_real_reading.specs.Trees.{expression_tree, link_tree, chained};
 ghost use Rattle.px_real_declaring.specs.Trees.{declarator_tree};
 ghost use Rattle.px_real_declaring.specs.Trees as Trees;
-ghost use Rattle.px_real_declarations.specs.DeclarationTree.{DeclaratorTree};
+ghost use Rattle.px_real_declarations.specs.DeclarationTree.{DeclaratorTree, no_name};
 ghost use Rattle.px_real_types.specs.Scopes.{texts};
 ghost use Rattle.px_real_values.specs.Views.{meaning_seen};
 ghost use Rattle.px_real_bodies.specs.Declarations as Rules;
@@ -108,6 +108,28 @@ fn is_length<F: Function>(
     }
 }
 
+// The bracket of a suffix, if its length isn't constant.
+fn suffix_stops<F: Function>(
+    alloc: Global,
+    function: &F,
+    scopes: &Scopes,
+    on: Texts,
+    suffix: &Suffix,
+) -> Result<Option<Site>, NoMemory>
+    ensures { IfOk result (λ o. o ≡ Rules.varies (F.sees function.now) scopes.now (Rules.lengths (Trees.suffixed (texts on.entry) no_name suffix.now))) }
+{
+    match suffix {
+        Suffix::Array { site, held } => {
+            if is_length(alloc, function, scopes, within(on, *held))? {
+                Ok(None)
+            } else {
+                Ok(Some(*site))
+            }
+        }
+        Suffix::Function { .. } => Ok(None),
+    }
+}
+
 // The first bracket, of those that stand behind a declarator, whose length isn't constant.
 fn suffix_varies<F: Function>(
     alloc: Global,
@@ -120,10 +142,9 @@ fn suffix_varies<F: Function>(
         IfOk result (λ o. o ≡ Rules.varies (F.sees function.now) scopes.now (Rules.lengths (Trees.all_suffixed (texts on.entry) d suffixes.now))) }
 {
     for suffix in suffixes {
-        if let Suffix::Array { site, held } = *suffix {
-            if !is_length(alloc, function, scopes, within(on, held))? {
-                return Ok(Some(site));
-            }
+        let stops = suffix_stops(alloc, function, scopes, on, suffix)?;
+        if let Some(site) = stops {
+            return Ok(Some(site));
         }
     }
     Ok(None)

@@ -15,7 +15,7 @@ ghost use Rattle.px_real_bodies.specs.Views.{place_seen};
 use crate::declarations::declare;
 use crate::function::Function;
 use crate::here::Here;
-use crate::leaving::{SwitchLabel, first_switch_label, stays};
+use crate::leaving::{first_switch_label, stays};
 use crate::phrases::{declaration_in, expression_in, first_place, no_place};
 use crate::place::Place;
 use crate::values::{decided, decided_if, put_parts_of, unread_at};
@@ -463,9 +463,14 @@ fn put_labelled<F: Function>(
     ensures { OnOk result (Walked (Rules.done (F.sees function.now) in_loop (labelled (map (label_tree (texts on.entry)) labels.now) (statement_tree (texts on.entry) statement.now)) (place_seen place.old)) (map typed_statement into.old.items) (map typed_statement into.new.items) (place_seen place.new)) }
 {
     match first_switch_label(labels) {
-        Some(SwitchLabel { word, site }) => {
-            put_stop(alloc, function, word, site, Vec::new(alloc), into)
-        }
+        Some(label) => put_stop(
+            alloc,
+            function,
+            label.word,
+            label.site,
+            Vec::new(alloc),
+            into,
+        ),
         None => put_statement(alloc, function, on, in_loop, statement, place, into),
     }
 }

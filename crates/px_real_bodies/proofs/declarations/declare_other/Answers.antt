@@ -12,5 +12,5 @@ pub returns : goal.returns
 returns g c =
     let at = place_seen c.args.place.now in
     let m = meaning_view c.args.meaning in
-    other_walked c.put_parts.result (g.F.Function.sees c.args.function.now) at (place_seen c.args.place.now) (map (specifier_tree (texts c.args.on)) c.args.specifiers.now) c.args.name.now _ _ _ m c.is_automatic-begins_anew.result
+    other_walked c.put_parts.result (g.F.Function.sees c.args.function.now) at (in_scopes at c.add_name.new.self) (map (specifier_tree (texts c.args.on)) c.args.specifiers.now) c.args.name.now _ _ _ m c.is_automatic-begins_anew.result
     (c.is_automatic-begins_anew.ensures (texts c.args.on)) (ap (in_scopes at) (c.in_ok-add_name.ensures.added ∙ ap (λ w. with_name (Some w) m at.scopes) c.as_slice.ensures)) c.put_parts.ensures

@@ -15,8 +15,8 @@ returns-in_default g c =
     put_as c.put_begun.result _ _ _ _
     (ap (λ s. s ∷ []) (begun_without (g.F.Function.sees c.args.function.now) c.args.scopes.now c.args.number c.args.kind _ (ap (option_map (held_in (texts c.args.on))) c.in_default.is))) c.put_begun.ensures
 
-pub returns-in-Some-expression : goal.returns-in-Some-expression
-returns-in-Some-expression g c =
+pub returns-in-Some-2 : goal.returns-in-Some-2
+returns-in-Some-2 g c =
     let f = g.F.Function.sees c.args.function.now in
     let st = c.args.scopes.now in
     let all = texts c.args.on in
@@ -24,13 +24,13 @@ returns-in-Some-expression g c =
     let us = texts c.in_ok-on.on in
     let tree = expression_tree (all_tabled st us) in
     let same : us ≡ unbraced ts = c.in_ok-on.ensures ∙ ap unbraced c.within-all.ensures in
-    let e = tree c.in-Some-expression.expression in
+    let e = tree c.in-Some-2.expression in
     let read : expression_in st (unbraced ts) ≡ Some e =
-    ap (expression_in st) (sym same) ∙ some_found tree _ _ c.in_ok-expression.ensures c.in-Some-expression.expression c.in-Some-expression.is in
+    ap (expression_in st) (sym same) ∙ some_found tree _ _ c.in_ok-expression.ensures c.in-Some-2.expression c.in-Some-2.is in
     put_as c.put_begun_with.result _ _ _ _ (ap (λ s. s ∷ []) (begun_with f st c.args.number c.args.kind _ ts (ap (option_map (held_in all)) c.in-Some.is) e read)) c.put_begun_with.ensures
 
-pub returns-in-None : goal.returns-in-None
-returns-in-None g c =
+pub returns-in_ok-value-in-None : goal.returns-in_ok-value-in-None
+returns-in_ok-value-in-None g c =
     let f = g.F.Function.sees c.args.function.now in
     let st = c.args.scopes.now in
     let all = texts c.args.on in
@@ -39,6 +39,6 @@ returns-in-None g c =
     let tree = expression_tree (all_tabled st us) in
     let same : us ≡ unbraced ts = c.in_ok-on.ensures ∙ ap unbraced c.within-all.ensures in
     let none : expression_in st (unbraced ts) ≡ None = ap (expression_in st) (sym same) ∙ none_found tree _ _ c.in_ok-expression.ensures c.in-None.is in
-    let u : typed_expression c.in_ok-value.value.value ≡ Values.unread_at f st no_place ts =
-    ap typed_expression c.in_ok-value.ensures.ok ∙ c.unread_at.ensures st ∙ ap (λ s. Values.unread_at f st s (texts c.within-all.result)) c.no_place.ensures ∙ ap (Values.unread_at f st no_place) c.within-all.ensures in
+    let u : typed_expression c.in_ok-value-in-None.value.value ≡ Values.unread_at f st no_place ts =
+    ap typed_expression c.in_ok-value-in-None.ensures.ok ∙ c.unread_at.ensures st ∙ ap (λ s. Values.unread_at f st s (texts c.within-all.result)) c.no_place.ensures ∙ ap (Values.unread_at f st no_place) c.within-all.ensures in
     put_as c.put.result _ _ _ _ (ap (λ s. s ∷ []) (begun_unread f st c.args.number c.args.kind _ ts (ap (option_map (held_in all)) c.in-Some.is) _ none u)) c.put.ensures

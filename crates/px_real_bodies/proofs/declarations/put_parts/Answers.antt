@@ -28,6 +28,6 @@ returns g c =
     let all = texts c.args.on in
     let ts = held_in all c.in-Some.held in
     let parts : map typed_expression c.put_initialiser_parts.new.into.items ≡ initialiser_parts f st nesting_limit no_place ts =
-    c.in_ok-put_initialiser_parts.ensures ∙ ap (λ z. map typed_expression z ++ initialiser_parts f st nesting_limit c.no_place.result (texts c.within.result)) c.new-parts.ensures
+    c.in_ok-put_initialiser_parts.ensures ∙ ap (λ z. map typed_expression z ++ initialiser_parts f st nesting_limit c.no_place.result (texts c.within.result)) c.new-parts.ensures.items
     ∙ ap (λ s. initialiser_parts f st nesting_limit s (texts c.within.result)) c.no_place.ensures ∙ ap (initialiser_parts f st nesting_limit no_place) c.within.ensures in
     put_as c.put_all_evaluated.result _ _ _ _ (ap evaluated (parts ∙ value_parts f st c.args.is_automatic _ ts c.if-not-is_automatic.false (ap (option_map (held_in all)) c.in-Some.is))) c.put_all_evaluated.ensures

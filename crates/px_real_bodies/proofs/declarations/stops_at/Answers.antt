@@ -9,11 +9,11 @@ returns-in-Some g c =
     let all = texts c.args.on in
     cleanup_stops (g.F.Function.sees c.args.function.now) c.args.scopes.now (map (specifier_tree all) c.args.specifiers.now) (declared_tree all c.args.declared.now) _ _ c.as_slice-word.ensures c.in-Some.ensures
 
-pub returns-in-Some-site : goal.returns-in-Some-site
-returns-in-Some-site g c =
+pub returns-in-Some-2 : goal.returns-in-Some-2
+returns-in-Some-2 g c =
     let all = texts c.args.on in
-    length_stops (g.F.Function.sees c.args.function.now) c.args.scopes.now (map (specifier_tree all) c.args.specifiers.now) (declared_tree all c.args.declared.now) _ _ c.as_slice-word-2.ensures
-    (sym c.in_default.is ∙ c.cleanup_of.ensures) (sym c.in-Some-site.is ∙ c.in_ok-site.ensures)
+    length_stops (g.F.Function.sees c.args.function.now) c.args.scopes.now (map (specifier_tree all) c.args.specifiers.now) (declared_tree all c.args.declared.now) _ _ c.as_slice-word-in-Some-2.ensures
+    (sym c.in_default.is ∙ c.cleanup_of.ensures) (sym c.in-Some-2.is ∙ c.in_ok-site.ensures)
 
 pub returns-in-None : goal.returns-in-None
 returns-in-None g c =

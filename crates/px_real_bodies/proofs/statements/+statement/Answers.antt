@@ -89,8 +89,8 @@ put_while-returns g t c =
     while_walked c.put.result f c.args.in_loop at (place_seen c.scoped.new.place) _ _ c.args.site (held_in all c.args.condition) (statement_tree all c.args.body.now) _ _ _
     (c.in_ok-condition.ensures ∙ ap (decided f at.scopes c.args.site) c.within.ensures) c.in_ok-body.ensures c.in_ok-nothing.ensures c.put.ensures
 
-pub put_do-returns-in_ok-block : goal.put_do-returns-in_ok-block
-put_do-returns-in_ok-block g t c =
+pub put_do-returns-then-branch : goal.put_do-returns-then-branch
+put_do-returns-then-branch g t c =
     let f = g.F.Function.sees c.args.function.now in
     let all = texts c.args.on in
     let at = place_seen c.args.place.now in
@@ -128,7 +128,7 @@ put_for-returns g t c =
     let begun = in_scopes at c.enter.new.self in
     for_walked c.put-2.result f c.args.in_loop at (in_scopes end c.leave.new.self) _ _ c.args.site first test each (statement_tree all c.args.body.now) begun mid end _ _ (map typed_statement c.put.new.into.items) _ _ _
     (ap (in_scopes at) c.in_ok-enter.ensures.entered) (ap (map typed_statement) c.new-statements.ensures.items)
-    (subst (λ z. Walked (phrased_if f c.args.site z begun) _ _ mid) c.within-first.ensures c.in_ok-phrase_if.ensures)
+    (subst (λ z. Walked (phrased_if f c.args.site z begun) (map typed_statement c.new-statements.result.items) (map typed_statement c.phrase_if.new.into.items) mid) c.within-first.ensures c.in_ok-phrase_if.ensures)
     (c.in_ok-condition.ensures ∙ ap (decided_if f mid.scopes c.args.site) c.within-test.ensures) (c.in_ok-step.ensures ∙ ap (λ z. block_of (acted_if f c.args.site z mid)) c.within.ensures) c.in_ok-body.ensures
     (ap (in_scopes end) c.leave.ensures) c.in_ok-put.ensures (put_as c.put-2.result _ _ _ _ (ap (λ s. s ∷ []) (typed-Block c.put.new.into)) c.put-2.ensures)
 
@@ -137,8 +137,8 @@ put_labelled-returns-in-Some g t c =
     let f = g.F.Function.sees c.args.function.now in
     let all = texts c.args.on in
     let at = place_seen c.args.place.now in
-    labelled_stops c.put_stop.result f c.args.in_loop at at _ _ (map (label_tree all) c.args.labels.now) (statement_tree all c.args.statement.now) c.in-Some.word.now c.in-Some.site
-    (sym (c.in-Some.ensures all)) refl (put_as c.put_stop.result _ _ _ _ (ap (λ ps. T.evaluate (stop ps (f.run.word_number c.in-Some.word.now) c.in-Some.site) ∷ []) (ap (map typed_expression) c.new.ensures.items)) c.put_stop.ensures)
+    labelled_stops c.put_stop.result f c.args.in_loop at at _ _ (map (label_tree all) c.args.labels.now) (statement_tree all c.args.statement.now) c.in-Some.label.word.now c.in-Some.label.site
+    (sym (c.in-Some.ensures all)) refl (put_as c.put_stop.result _ _ _ _ (ap (λ ps. T.evaluate (stop ps (f.run.word_number c.in-Some.label.word.now) c.in-Some.label.site) ∷ []) (ap (map typed_expression) c.new.ensures.items)) c.put_stop.ensures)
 
 pub put_labelled-returns-in-None : goal.put_labelled-returns-in-None
 put_labelled-returns-in-None g t c =
@@ -202,7 +202,7 @@ put_statement-returns-in-Switch g t c =
     let s = c.in-Switch in
     walked_as c.put_switch.result f c.args.in_loop at at _ _ (statement_tree all c.args.statement.now) (switch s.site (held_in all s.value) (statement_tree all s.body.value))
     (ap (statement_tree all) s.is ∙ tree-Switch all s.site s.value s.body)
-    (walks_as c.put_switch.result _ _ _ _ _ (ap (λ z. stopping f (codes "switch") s.site (parts_of f at.scopes s.site z) at) c.within-in-Switch.ensures) c.put_switch.ensures)
+    (walks_as c.put_switch.result _ _ _ _ _ (ap (λ z. stopping f (codes "switch") s.site (parts_of f at.scopes s.site z) at) c.within.ensures) c.put_switch.ensures)
 
 pub put_statement-returns-in-While : goal.put_statement-returns-in-While
 put_statement-returns-in-While g t c =

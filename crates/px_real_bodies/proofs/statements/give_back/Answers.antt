@@ -8,7 +8,7 @@ use Rattle.px_real_bodies.proofs.statements.give_back.Goals as goal
 
 pub returns-then-is_empty : goal.returns-then-is_empty
 returns-then-is_empty g c =
-    back_without c.put_return.result (g.F.Function.sees c.args.function.now) c.args.site (texts c.args.on) (place_seen c.args.place.now) _ _ c.returns.result (texts_none c.args.on c.if-is_empty.ensures) c.returns.ensures
+    back_without c.put_return.result (g.F.Function.sees c.args.function.now) c.args.site (texts c.args.on) (place_seen c.args.place.now) _ _ c.returns-returns.result (texts_none c.args.on c.if-is_empty.ensures) c.returns-returns.ensures
     c.put_return.ensures
 
 pub returns-in-Some : goal.returns-in-Some
@@ -16,7 +16,7 @@ returns-in-Some g c =
     let at = place_seen c.args.place.now in
     let ts = texts c.args.on in
     let tree = expression_tree (all_tabled at.scopes ts) in
-    back_with c.put_return_of.result (g.F.Function.sees c.args.function.now) c.args.site ts at _ _ c.returns.result (tree c.in-Some.value) (texts_some c.args.on c.if-is_empty.ensures) c.returns.ensures
+    back_with c.put_return_of.result (g.F.Function.sees c.args.function.now) c.args.site ts at _ _ c.returns-returns.result (tree c.in-Some.value) (texts_some c.args.on c.if-is_empty.ensures) c.returns-returns.ensures
     (some_found tree _ _ c.in_ok-value.ensures c.in-Some.value c.in-Some.is) c.put_return_of.ensures
 
 pub returns-in-None : goal.returns-in-None

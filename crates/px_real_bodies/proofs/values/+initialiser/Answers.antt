@@ -1,4 +1,4 @@
-use Rattle.std.proofs.Common.{◌≡◌, ◌∙◌, ◌+◌, ◌<◌, ◌∷◌, [], ◌++◌, sym, ap, refl, drop, map, length, Some, rules, arith}
+use Rattle.std.proofs.Common.{◌≡◌, ◌∙◌, ◌+◌, ◌<◌, ◌≤◌, ◌∷◌, [], ◌++◌, sym, ap, refl, drop, map, length, Some, rules, arith}
 use Rattle.std.proofs.lemmas.List.{length-map}
 use Rattle.px_syntax.specs.TypedViews.{typed_expression}
 use Rattle.px_real_expressions.specs.declared.terminal.Terminal.TheVariants as K
@@ -10,7 +10,7 @@ use Rattle.px_real_bodies.proofs.ListLemmas.{onto, onto_nothing, outside_parts, 
 use Rattle.px_real_bodies.proofs.ItemLemmas.{span, item_last, no_item, parts_ended, parts_further}
 use Rattle.px_real_bodies.proofs.PartLemmas.{texts_none, texts_some, some_found, none_found, put_as, initialiser_deep, initialiser_list, initialiser_alone, item_on, items_end}
 use Rattle.px_real_bodies.proofs.values.+initialiser.Goals as goal
-use Rattle.px_real_bodies.proofs.values.+initialiser.Goals.{then-stands_outside+in_ok-put_item, else-stands_outside}
+use Rattle.px_real_bodies.proofs.values.+initialiser.Goals.{put_items-then-stands_outside+in_ok-put_item, put_items-else-stands_outside}
 
 -- ---- one item
 
@@ -55,14 +55,14 @@ put_items-loop-at-preserved g t c =
     let le = c.loop-at.invariant.1.0 in
     let so_far = c.loop-at.invariant.1.1 in
     elim c.if-stands_outside.branch [
-      | then-stands_outside+in_ok-put_item w ↦
+      | put_items-then-stands_outside+in_ok-put_item w ↦
           let p = outside_parts n (same (view x).terminal K.Comma) w.if-stands_outside.ensures in (
             omega (arith, now, most, was),
             omega (arith, w.first-is),
             rw (w.first-is, w.into-is)
                 (parts_ended parts_in ts first i n c.opened-open.result (view x) _ _ next now so_far (texts w.within-item.result) (map typed_expression w.put_item.new.into.items) p.0 p.1 w.within-item.ensures w.in_ok-put_item.ensures),
           )
-      | else-stands_outside w ↦ (
+      | put_items-else-stands_outside w ↦ (
         omega (arith, now, most, was),
         omega (arith, w.first-is, le),
         rw (w.first-is, w.into-is) (parts_further parts_in ts first i n c.opened-open.result (view x) _ _ next now so_far le inside (sym w.if-stands_outside.ensures)),
