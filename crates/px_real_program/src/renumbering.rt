@@ -117,7 +117,7 @@ fn renumber_argument(argument: &mut Argument, by: &Narrowing)
 }
 
 #[cycle(renumbered)]
-#[tactic(auto, using(px_syntax::proofs::TypedEquations::typed_trees))]
+#[tactic(auto, using(px_syntax::proofs::TypedEquations::typed_trees, crate::proofs::RenumberLemmas::chains_changed))]
 fn renumber_expression(expression: &mut TypedExpression, by: &Narrowing)
     ensures { typed_expression expression.new ≡ Rules.new_expression (renumbering by.now) (typed_expression expression.old) }
 {
@@ -167,7 +167,7 @@ fn renumber_expression(expression: &mut TypedExpression, by: &Narrowing)
 }
 
 #[cycle(renumbered)]
-#[tactic(auto, using(px_syntax::proofs::TypedEquations::typed_trees))]
+#[tactic(auto, using(px_syntax::proofs::TypedEquations::typed_trees, crate::proofs::RenumberLemmas::chains_changed))]
 fn renumber_condition(condition: &mut Condition, by: &Narrowing)
     ensures { typed_condition condition.new ≡ Rules.new_condition (renumbering by.now) (typed_condition condition.old) }
 {
