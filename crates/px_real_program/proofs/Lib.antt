@@ -2,6 +2,7 @@ pub mod CalleeLemmas
 pub mod CarriedLemmas
 pub mod HiddenLemmas
 pub mod KeptLemmas
+pub mod KeyLemmas
 pub mod LeftLemmas
 pub mod NameLemmas
 pub mod NamedLemmas
