@@ -9,6 +9,7 @@ pub mod NamedLemmas
 pub mod NarrowLemmas
 pub mod NumberedLemmas
 pub mod ProgramLemmas
+pub mod ReachLemmas
 pub mod RenumberLemmas
 pub mod SightLemmas
 pub mod SightedLemmas

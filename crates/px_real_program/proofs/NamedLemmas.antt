@@ -24,7 +24,7 @@ base_itself : (b : Base) → same_base b b ≡ true
 base_itself B.Int = refl
 base_itself (B.Struct n) = eq-eqb n n refl
 
-type_itself : (t : ProfileType) → same_type t t ≡ true
+pub type_itself : (t : ProfileType) → same_type t t ≡ true
 type_itself t = ap₂ (λ a b. a && b) (base_itself t.base) (eq-eqb t.stars t.stars refl)
 
 -- texts that are called, and those that stand as words
