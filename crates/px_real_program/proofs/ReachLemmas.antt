@@ -2,7 +2,8 @@
 use Rattle.std.proofs.Common.{◌≡◌, ◌∙◌, refl, sym, ap, ap₂, subst, arith, ℕ, zero, suc, ◌+◌, Bool, true, false, List, [], ◌∷◌, ◌++◌, length, take, drop, slice_get}
 use Rattle.std.specs.Prelude.{if◌then◌else◌, flat_map}
 use Rattle.std.specs.List.{list_any, AllByRecursion}
-use Rattle.std.proofs.lemmas.List.{append_assoc, take-append-drop, drop_all}
+use Rattle.std.proofs.lemmas.Grind.{flat_map-append}
+use Rattle.std.proofs.lemmas.List.{take-append-drop, drop_all}
 use Rattle.std.proofs.lemmas.Option.{none-some, same_Some}
 use Rattle.indexmap.specs.IndexSet.{insert_key, insert_all}
 use Rattle.px_typing.specs.Sights.{first_sights}
@@ -32,10 +33,6 @@ put_front same seen (x ∷ xs) = by (list_any (same x) seen)
     by true = put_front same seen xs
     by false = shorter x seen (insert_all same (seen ++ x ∷ []) xs) (put_front same (seen ++ x ∷ []) xs)
 
-flat_both : {A B : Type 0} (g : A → List B) (xs ys : List A) → flat_map g (xs ++ ys) ≡ flat_map g xs ++ flat_map g ys
-flat_both g [] ys = refl
-flat_both g (x ∷ xs) ys = ap (λ z. g x ++ z) (flat_both g xs ys) ∙ sym (append_assoc (g x) (flat_map g xs) (flat_map g ys))
-
 module _ (fs : List KnownFile) (ts : List ProfileType) where
   abbrev pub us : ℕ → List ProfileType
   us n = reached fs n ts
@@ -57,7 +54,7 @@ module _ (fs : List KnownFile) (ts : List ProfileType) where
   pub next_from : (n from : ℕ) → IsSeen n from → us (suc n) ≡ insert_all same_type (us n) (behind (drop from (us n)))
   next_from n from h =
       next_is n ∙ ap (λ z. insert_all same_type (us n) (behind z)) (sym (take-append-drop from (us n)))
-      ∙ ap (insert_all same_type (us n)) (flat_both (behind_block fs) (take from (us n)) (drop from (us n)))
+      ∙ ap (insert_all same_type (us n)) (flat_map-append (behind_block fs) (take from (us n)) (drop from (us n)))
       ∙ insert_all-append same_type (us n) (behind (take from (us n))) (behind (drop from (us n)))
       ∙ ap (λ z. insert_all same_type z (behind (drop from (us n)))) (absorbed same_type type_itself (us n) (behind (take from (us n))) h)
 
