@@ -17,20 +17,17 @@ use Rattle.px_real_program.specs.Numbers.{KnownFile, NumbersTree}
 use Rattle.px_real_program.specs.Programs.{with_bases, reached, behind_block, struct_count, types_named, words_named, names_called, out_names, out_at, unknown_at}
 use Rattle.px_real_program.proofs.SightedLemmas.{once, values_once, values_of}
 
-text_itself : (text : List ℕ) → bytes_eq text text ≡ true
-text_itself text = (bytes_eq-Decides text text).1 refl
-
 base_itself : (b : Base) → same_base b b ≡ true
 base_itself B.Int = refl
 base_itself (B.Struct n) = eq-eqb n n refl
 
-type_itself : (t : ProfileType) → same_type t t ≡ true
+pub type_itself : (t : ProfileType) → same_type t t ≡ true
 type_itself t = ap₂ (λ a b. a && b) (base_itself t.base) (eq-eqb t.stars t.stars refl)
 
 -- texts that are called, and those that stand as words
 texts_named : (at : ℕ → Option (List ℕ)) (seen : Sight → Option ℕ) (before : List (List ℕ)) (ss : List Sight) →
     insert_all bytes_eq before (filter_map at (first_sights nat_eq (filter_map seen ss))) ≡ insert_all bytes_eq before (filter_map (λ s. option_and_then at (seen s)) ss)
-texts_named at seen before ss = values_once bytes_eq text_itself at before (filter_map seen ss) ∙ ap (insert_all bytes_eq before) (sym (values_of seen at ss))
+texts_named at seen before ss = values_once bytes_eq (λ text. (bytes_eq-Decides text text).1 refl) at before (filter_map seen ss) ∙ ap (insert_all bytes_eq before) (sym (values_of seen at ss))
 
 module _ (fs : List KnownFile) (m : NumbersTree) (ss : List Sight) (functions blocks words : List ℕ) (f : functions ≡ first_sights nat_eq (filter_map function_seen ss)) (b : blocks ≡ first_sights nat_eq (filter_map block_seen ss)) (w : words ≡ first_sights nat_eq (filter_map word_seen ss)) where
   pub out_named : insert_all bytes_eq (out_names fs) (filter_map (out_at m) functions) ≡ first_sights bytes_eq (out_names fs ++ names_called (out_at m) ss)

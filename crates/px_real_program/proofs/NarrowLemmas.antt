@@ -74,7 +74,8 @@ type_there : (count n : ℕ) → n < (count + 1) * 3 → (count + 1) * 3 ≤ 429
 type_there count zero l b = coded_is (record { base = B.Int; stars = 0 }) 0 (omega arith) (omega arith) (omega arith)
 type_there count (suc zero) l b = coded_is (record { base = B.Int; stars = 1 }) 1 (omega arith) (omega arith) (omega arith)
 type_there count (suc (suc zero)) l b = coded_is (record { base = B.Int; stars = 2 }) 2 (omega arith) (omega arith) (omega arith)
-type_there count (suc (suc (suc n))) l b = struct_at count n (omega (arith, l)) (omega (arith, l, b))
+type_there count (suc (suc (suc n))) l b =
+    let e : 3 + n ≡ suc (suc (suc n)) = omega arith in subst (λ z. IsCodedAt z (slice_get (all_structs count) n)) e (struct_at count n (omega (arith, l)) (omega (arith, l, b)))
 
 type_past : (count n : ℕ) → (count + 1) * 3 ≤ n → type_at (AllTypes count) n ≡ int
 type_past count n l =

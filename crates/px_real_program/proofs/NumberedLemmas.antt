@@ -4,7 +4,9 @@ use Rattle.std.specs.Str.{bytes_eq}
 use Rattle.std.specs.List.{list_any, position_from}
 use Rattle.std.proofs.lemmas.Slice.Eq.{bytes_eq-Decides}
 use Rattle.std.proofs.lemmas.Iterator.Adapters.{position_from-zero}
+use Rattle.std.proofs.lemmas.List.Folds.{list_any-append}
 use Rattle.px_typing.specs.Sights.{number_in}
+use Rattle.px_real_program.proofs.NameLemmas.{none_taken_in}
 
 module _ {A : Type 0} (p : A → Bool) where
   -- one more changes nothing for what is there
@@ -32,26 +34,11 @@ module _ {A : Type 0} (p : A → Bool) where
           ap (λ b. cond b (Some i) (position_from p (i + 1) (ys ++ x ∷ []))) f
           ∙ last_from (i + 1) ys x (sym (ap (λ b. b || list_any p ys) f) ∙ h) e ∙ ap Some (let k : (i + 1) + length ys ≡ i + suc (length ys) = omega arith in k)
 
-any_last : {A : Type 0} (p : A → Bool) (xs : List A) (x : A) → list_any p (xs ++ x ∷ []) ≡ (list_any p xs || p x)
-any_last p [] x = by (p x)
-  where
-    by : (b : Bool) → (b || false) ≡ b
-    by true = refl
-    by false = refl
-any_last p (y ∷ ys) x = ap (λ b. p y || b) (any_last p ys x) ∙ by (p y) (list_any p ys) (p x)
-  where
-    by : (a b c : Bool) → (a || (b || c)) ≡ ((a || b) || c)
-    by true b c = refl
-    by false b c = refl
-
 -- ---- names
 
 module _ (names : List (List ℕ)) (text name : List ℕ) where
   same_text : bytes_eq text name ≡ true → name ≡ text
   same_text e = sym ((bytes_eq-Decides text name).0 e)
-
-  same_itself : bytes_eq name name ≡ true
-  same_itself = (bytes_eq-Decides name name).1 refl
 
   -- the other way round
   turned : bytes_eq name text ≡ bytes_eq text name
@@ -92,7 +79,7 @@ module _ (names : List (List ℕ)) (text name : List ℕ) where
         by false = numbered
 
     pub put_there : new ≡ cond (bytes_eq text name) (Some (first + length names)) old → is_some new ≡ list_any (bytes_eq name) (names ++ text ∷ [])
-    put_there e = ap is_some e ∙ by (bytes_eq text name) ∙ ap₂ (λ a b. a || b) there (sym turned) ∙ sym (any_last (bytes_eq name) names text)
+    put_there e = ap is_some e ∙ by (bytes_eq text name) ∙ ap₂ (λ a b. a || b) there (sym turned) ∙ ap (λ b. list_any (bytes_eq name) names || b) (none_taken_in (bytes_eq name text)) ∙ sym (list_any-append (bytes_eq name) names (text ∷ []))
       where
         by : (b : Bool) → is_some (cond b (Some (first + length names)) old) ≡ (is_some old || b)
         by true = by2 (is_some old)
@@ -110,7 +97,7 @@ module _ (names : List (List ℕ)) (text name : List ℕ) where
     keep_number h = numbered ∙ ap (λ n. first + n) (sym (still_numbered h))
 
     pub keep_there : list_any (bytes_eq text) names ≡ true → is_some old ≡ list_any (bytes_eq name) (names ++ text ∷ [])
-    keep_there h = there ∙ by (bytes_eq text name) refl ∙ sym (any_last (bytes_eq name) names text)
+    keep_there h = there ∙ by (bytes_eq text name) refl ∙ ap (λ b. list_any (bytes_eq name) names || b) (none_taken_in (bytes_eq name text)) ∙ sym (list_any-append (bytes_eq name) names (text ∷ []))
       where
         by : (b : Bool) → bytes_eq text name ≡ b → list_any (bytes_eq name) names ≡ (list_any (bytes_eq name) names || bytes_eq name text)
         by true e = ap (λ z. list_any (bytes_eq z) names) (same_text e) ∙ h ∙ sym (ap (λ z. z || bytes_eq name text) (ap (λ z. list_any (bytes_eq z) names) (same_text e) ∙ h))

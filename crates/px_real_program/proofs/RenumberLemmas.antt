@@ -1,7 +1,6 @@
 -- Trees whose numbers are changed in place.
-use Rattle.std.proofs.Common.{◌≡◌, ◌∙◌, refl, sym, ap, ap₂, arith, ℕ, ◌+◌, ◌<◌, ◌≤◌, List, [], ◌∷◌, ◌++◌, map, length, get_or, set, take, drop}
-use Rattle.std.proofs.lemmas.List.{length-map, take_all, drop_all, map-set, append-nil}
-use Rattle.std.proofs.lemmas.List.Edits.{map_over_more}
+use Rattle.std.proofs.Common.{◌≡◌, ◌∙◌, refl, ap, arith, ℕ, zero, suc, ◌+◌, ◌<◌, ◌≤◌, List, [], ◌∷◌, ◌++◌, map, length, get_or, slice_index_or, slice_set, ◌≢◌, take, drop}
+use Rattle.std.proofs.lemmas.List.{length-set, get_or-set_other}
 use Rattle.px_syntax.specs.declared.typed_expression.CellLink.{CellLink}
 use Rattle.px_syntax.specs.TypedTree.{Expression, arithmetic, truth, cell, Argument, Statement, an_expression, an_argument, a_statement, expressions_of, arguments_of, statements_of, Condition, compare, both, either}
 use Rattle.px_syntax.specs.TypedViews.{ArithmeticLinkTree, RelationLinkTree, calculated, compared, cells, all_of, any_of}
@@ -10,28 +9,34 @@ use Rattle.px_real_program.specs.Steps.{new_link, new_relation, new_cell}
 
 -- ---- one after the other
 
--- the first so many are changed
-abbrev pub Changed : {A B : Type 0} → (A → B) → (B → B) → List A → List A → ℕ → Type 0
-Changed view f old new i = map view new ≡ map f (take i (map view old)) ++ drop i (map view old)
+module _ {A B : Type 0} (view : A → B) (f : B → B) where
+  -- those that are changed, and those that are not with what they will be
+  abbrev pub when_changed : List A → ℕ → List B
+  when_changed xs i = map view (take i xs) ++ map f (map view (drop i xs))
 
-pub none_changed : {A B : Type 0} (view : A → B) (f : B → B) (xs : List A) → Changed view f xs xs 0
-none_changed view f xs = refl
+  change_next : (xs : List A) (i : ℕ) (x y : A) → i < length xs → x ≡ slice_index_or xs i x → view y ≡ f (view x) → when_changed (slice_set xs i y) (suc i) ≡ when_changed xs i
+  change_next [] i x y lt at is = absurd (omega (arith, lt))
+  change_next (z ∷ zs) zero x y lt at is = ap (λ s. s ∷ map f (map view zs)) (is ∙ ap (λ k. f (view k)) at)
+  change_next (z ∷ zs) (suc i) x y lt at is = ap (λ ss. view z ∷ ss) (change_next zs i x y (omega (arith, lt)) at is)
 
-module _ {A B : Type 0} (view : A → B) (f : B → B) (old now : List A) (i : ℕ) (so_far : Changed view f old now i) where
-  pub one_changed : i < length old → (x z : A) → x ≡ get_or now i x → view z ≡ f (view x) → Changed view f old (set now i z) (i + 1)
-  one_changed lt x z is e =
-      map-set view now i z ∙ ap (set (map view now) i) e
-      ∙ map_over_more f (map view old) (map view now) i (view x) (let k = length-map old view in omega (arith, lt, k)) so_far (ap view is ∙ got now i)
-    where
-      got : (xs : List A) (j : ℕ) → view (get_or xs j x) ≡ get_or (map view xs) j (view x)
-      got [] j = refl
-      got (y ∷ ys) zero = refl
-      got (y ∷ ys) (suc j) = got ys j
+  pub change_more : (xs : List A) (i : ℕ) (x y : A) → i < length xs → x ≡ slice_index_or xs i x → view y ≡ f (view x) → when_changed (slice_set xs i y) (i + 1) ≡ when_changed xs i
+  change_more xs i x y lt at is = let one : i + 1 ≡ suc i = omega arith in ap (when_changed (slice_set xs i y)) one ∙ change_next xs i x y lt at is
 
-  pub all_changed : length old ≤ i → map view now ≡ map f (map view old)
-  all_changed le =
-      let k = length-map old view in
-      so_far ∙ ap₂ (λ a b. map f a ++ b) (take_all i (map view old) (omega (arith, le, k))) (drop_all i (map view old) (omega (arith, le, k))) ∙ append-nil (map f (map view old))
+  pub change_ends : (xs : List A) (i : ℕ) → length xs ≤ i → map view xs ≡ when_changed xs i
+  change_ends [] zero past = refl
+  change_ends [] (suc i) past = refl
+  change_ends (x ∷ xs) zero past = absurd (omega (arith, past))
+  change_ends (x ∷ xs) (suc i) past = ap (λ ss. view x ∷ ss) (change_ends xs i (omega (arith, past)))
+
+-- those behind are as they were
+abbrev pub Unvisited : {A : Type 0} → List A → List A → ℕ → Type 0
+Unvisited {A} now old i = (length now ≡ length old) × ((k : ℕ) (d : A) → i ≤ k → get_or now k d ≡ get_or old k d)
+
+pub still_unvisited : {A : Type 0} (now old : List A) (i : ℕ) (y : A) → Unvisited now old i → Unvisited (slice_set now i y) old (i + 1)
+still_unvisited now old i y h = (
+  length-set now i y ∙ h.0,
+  λ k d le. let ne : k ≢ i = omega (arith, le) in get_or-set_other now i k y d ne ∙ h.1 k d (omega (arith, le)),
+)
 
 -- ---- lists of trees
 

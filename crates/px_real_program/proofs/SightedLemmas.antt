@@ -2,8 +2,9 @@
 use Rattle.std.proofs.Common.{◌≡◌, ◌∙◌, refl, sym, ap, subst, append-nil, ℕ, Bool, true, false, ◌||◌, nat_eq, List, [], ◌∷◌, ◌++◌, map, Option, Some, None, true≢false}
 use Rattle.std.specs.Prelude.{if◌then◌else◌, flat_map, filter_map, option_and_then, option_to_list, ⊤}
 use Rattle.std.specs.List.{list_any, cons_option, AllByRecursion}
-use Rattle.std.proofs.lemmas.Bool.{eqb-true}
+use Rattle.std.proofs.lemmas.Bool.{eqb-true, or_left, or_right}
 use Rattle.std.proofs.lemmas.List.{append_assoc}
+use Rattle.std.proofs.lemmas.List.Folds.{list_any-append}
 use Rattle.indexmap.specs.IndexSet.{insert_key, insert_all}
 use Rattle.px_typing.specs.Sights.{first_sights}
 use Rattle.px_typing.proofs.NumberLemmas.{insert_all-append}
@@ -13,20 +14,10 @@ module _ {A : Type 0} (same : A → A → Bool) (itself : (x : A) → same x x �
   Has seen x = list_any (same x) seen ≡ true
 
   any_both : (p : A → Bool) (xs ys : List A) → list_any p xs ≡ true → list_any p (xs ++ ys) ≡ true
-  any_both p [] ys h = absurd (true≢false (sym h))
-  any_both p (x ∷ xs) ys h = by (p x) refl
-    where
-      by : (b : Bool) → p x ≡ b → (p x || list_any p (xs ++ ys)) ≡ true
-      by true e = ap (λ b. b || list_any p (xs ++ ys)) e
-      by false e = ap (λ b. b || list_any p (xs ++ ys)) e ∙ any_both p xs ys (sym (ap (λ b. b || list_any p xs) e) ∙ h)
+  any_both p xs ys h = list_any-append p xs ys ∙ or_left (list_any p xs) (list_any p ys) h
 
   any_last : (p : A → Bool) (xs : List A) (x : A) → p x ≡ true → list_any p (xs ++ x ∷ []) ≡ true
-  any_last p [] x h = ap (λ b. b || false) h
-  any_last p (y ∷ ys) x h = ap (λ b. p y || b) (any_last p ys x h) ∙ by (p y)
-    where
-      by : (b : Bool) → (b || true) ≡ true
-      by true = refl
-      by false = refl
+  any_last p xs x h = list_any-append p xs (x ∷ []) ∙ or_right (list_any p xs) (p x || false) (or_left (p x) false h)
 
   put_kept : (seen : List A) (y x : A) → Has seen x → Has (insert_key same seen y) x
   put_kept seen y x h = by (list_any (same y) seen)

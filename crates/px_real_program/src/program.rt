@@ -57,9 +57,9 @@ fn narrow<'a>(
     run: &KnownRun,
     texts: &IndexSet<&'a [u8]>,
     numbers: &Numbers<'a>,
-    procedures: &mut [Procedure],
+    procedures: &mut Vec<Procedure>,
 ) -> Result<(), NoMemory>
-    ensures { (files : List FileTree) → let fs = known_files files in AreKnown fs run.now → map (λ w. w.now) texts.now.keys ≡ Rules.all_texts files → AreNumbers fs (Rules.numbers_of files fs) numbers.now → map procedure_tree procedures.old ≡ Rules.procedures fs (Rules.all_numbers files fs) → OnOk result (map procedure_tree procedures.new ≡ Rules.own_procedures files fs) }
+    ensures { (files : List FileTree) → let fs = known_files files in AreKnown fs run.now → map (λ w. w.now) texts.now.keys ≡ Rules.all_texts files → AreNumbers fs (Rules.numbers_of files fs) numbers.now → map procedure_tree procedures.old.items ≡ Rules.procedures fs (Rules.all_numbers files fs) → OnOk result (map procedure_tree procedures.new.items ≡ Rules.own_procedures files fs) }
 {
     let by = Narrowing {
         kept: kept_count(run)?,

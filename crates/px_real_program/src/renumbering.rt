@@ -27,42 +27,60 @@ fn renumber_values(kinds: &mut Items<ValueType>, by: &Narrowing)
     ensures { kinds.new ≡ map (Rules.new_value (renumbering by.now)) kinds.old }
 {
     for at in 0..kinds.len() {
-        if let Some(kind) = kinds.get(at) {
-            let new = new_value(*kind, by);
-            kinds.set(at, new);
-        }
+        let new = new_value(kinds.as_slice()[at], by);
+        kinds.set(at, new);
     }
 }
 
 #[cycle(renumbered)]
-fn renumber_links(links: &mut [ArithmeticLink], by: &Narrowing)
-    ensures { map arithmetic_link links.new ≡ map (new_link (renumbering by.now)) (map arithmetic_link links.old) }
+fn renumber_link(link: &mut ArithmeticLink, by: &Narrowing)
+    ensures { arithmetic_link link.new ≡ new_link (renumbering by.now) (arithmetic_link link.old) }
+{
+    renumber_expression(&mut link.operand, by);
+}
+
+#[cycle(renumbered)]
+fn renumber_links(links: &mut Vec<ArithmeticLink>, by: &Narrowing)
+    ensures { map arithmetic_link links.new.items ≡ map (new_link (renumbering by.now)) (map arithmetic_link links.old.items) }
 {
     for at in 0..links.len() {
-        renumber_expression(&mut links[at].operand, by);
+        renumber_link(&mut links[at], by);
     }
 }
 
 #[cycle(renumbered)]
-fn renumber_relations(links: &mut [RelationLink], by: &Narrowing)
-    ensures { map relation_link links.new ≡ map (new_relation (renumbering by.now)) (map relation_link links.old) }
+fn renumber_relation(link: &mut RelationLink, by: &Narrowing)
+    ensures { relation_link link.new ≡ new_relation (renumbering by.now) (relation_link link.old) }
+{
+    renumber_expression(&mut link.operand, by);
+}
+
+#[cycle(renumbered)]
+fn renumber_relations(links: &mut Vec<RelationLink>, by: &Narrowing)
+    ensures { map relation_link links.new.items ≡ map (new_relation (renumbering by.now)) (map relation_link links.old.items) }
 {
     for at in 0..links.len() {
-        renumber_expression(&mut links[at].operand, by);
+        renumber_relation(&mut links[at], by);
     }
 }
 
-fn renumber_cells(links: &mut [CellLink], by: &Narrowing)
-    ensures { links.new ≡ map (new_cell (renumbering by.now)) links.old }
+fn renumber_cell(link: &mut CellLink, by: &Narrowing)
+    ensures { link.new ≡ new_cell (renumbering by.now) link.old }
+{
+    link.block = by.block_of(link.block);
+}
+
+fn renumber_cells(links: &mut Vec<CellLink>, by: &Narrowing)
+    ensures { links.new.items ≡ map (new_cell (renumbering by.now)) links.old.items }
 {
     for at in 0..links.len() {
-        links[at].block = by.block_of(links[at].block);
+        renumber_cell(&mut links[at], by);
     }
 }
 
 #[cycle(renumbered)]
-fn renumber_conditions(conditions: &mut [Condition], by: &Narrowing)
-    ensures { map typed_condition conditions.new ≡ map (Rules.new_condition (renumbering by.now)) (map typed_condition conditions.old) }
+fn renumber_conditions(conditions: &mut Vec<Condition>, by: &Narrowing)
+    ensures { map typed_condition conditions.new.items ≡ map (Rules.new_condition (renumbering by.now)) (map typed_condition conditions.old.items) }
 {
     for at in 0..conditions.len() {
         renumber_condition(&mut conditions[at], by);
@@ -70,8 +88,8 @@ fn renumber_conditions(conditions: &mut [Condition], by: &Narrowing)
 }
 
 #[cycle(renumbered)]
-fn renumber_expressions(expressions: &mut [TypedExpression], by: &Narrowing)
-    ensures { expressions_of (map typed_expression expressions.new) ≡ Rules.new_expressions (renumbering by.now) (expressions_of (map typed_expression expressions.old)) }
+fn renumber_expressions(expressions: &mut Vec<TypedExpression>, by: &Narrowing)
+    ensures { expressions_of (map typed_expression expressions.new.items) ≡ Rules.new_expressions (renumbering by.now) (expressions_of (map typed_expression expressions.old.items)) }
 {
     for at in 0..expressions.len() {
         renumber_expression(&mut expressions[at], by);
@@ -79,8 +97,8 @@ fn renumber_expressions(expressions: &mut [TypedExpression], by: &Narrowing)
 }
 
 #[cycle(renumbered)]
-fn renumber_arguments(arguments: &mut [Argument], by: &Narrowing)
-    ensures { arguments_of (map typed_argument arguments.new) ≡ Rules.new_arguments (renumbering by.now) (arguments_of (map typed_argument arguments.old)) }
+fn renumber_arguments(arguments: &mut Vec<Argument>, by: &Narrowing)
+    ensures { arguments_of (map typed_argument arguments.new.items) ≡ Rules.new_arguments (renumbering by.now) (arguments_of (map typed_argument arguments.old.items)) }
 {
     for at in 0..arguments.len() {
         renumber_argument(&mut arguments[at], by);
@@ -99,7 +117,7 @@ fn renumber_argument(argument: &mut Argument, by: &Narrowing)
 }
 
 #[cycle(renumbered)]
-#[tactic(auto, using(px_syntax::proofs::TypedEquations::typed_trees))]
+#[tactic(auto, using(px_syntax::proofs::TypedEquations::typed_trees, crate::proofs::RenumberLemmas::chains_changed))]
 fn renumber_expression(expression: &mut TypedExpression, by: &Narrowing)
     ensures { typed_expression expression.new ≡ Rules.new_expression (renumbering by.now) (typed_expression expression.old) }
 {
@@ -149,7 +167,7 @@ fn renumber_expression(expression: &mut TypedExpression, by: &Narrowing)
 }
 
 #[cycle(renumbered)]
-#[tactic(auto, using(px_syntax::proofs::TypedEquations::typed_trees))]
+#[tactic(auto, using(px_syntax::proofs::TypedEquations::typed_trees, crate::proofs::RenumberLemmas::chains_changed))]
 fn renumber_condition(condition: &mut Condition, by: &Narrowing)
     ensures { typed_condition condition.new ≡ Rules.new_condition (renumbering by.now) (typed_condition condition.old) }
 {
@@ -220,8 +238,8 @@ fn renumber_condition_of(condition: &mut Option<Box<Condition>>, by: &Narrowing)
 }
 
 #[cycle(statements_renumbered)]
-fn renumber_statements(statements: &mut [TypedStatement], by: &Narrowing)
-    ensures { statements_of (map typed_statement statements.new) ≡ Rules.new_statements (renumbering by.now) (statements_of (map typed_statement statements.old)) }
+fn renumber_statements(statements: &mut Vec<TypedStatement>, by: &Narrowing)
+    ensures { statements_of (map typed_statement statements.new.items) ≡ Rules.new_statements (renumbering by.now) (statements_of (map typed_statement statements.old.items)) }
 {
     for at in 0..statements.len() {
         renumber_statement(&mut statements[at], by);
@@ -303,8 +321,8 @@ fn renumber_procedure(procedure: &mut Procedure, by: &Narrowing)
 }
 
 /// All that stand in procedures.
-pub fn renumber(procedures: &mut [Procedure], by: &Narrowing)
-    ensures { map procedure_tree procedures.new ≡ map (Rules.new_procedure (renumbering by.now)) (map procedure_tree procedures.old) }
+pub fn renumber(procedures: &mut Vec<Procedure>, by: &Narrowing)
+    ensures { map procedure_tree procedures.new.items ≡ map (Rules.new_procedure (renumbering by.now)) (map procedure_tree procedures.old.items) }
 {
     for at in 0..procedures.len() {
         renumber_procedure(&mut procedures[at], by);

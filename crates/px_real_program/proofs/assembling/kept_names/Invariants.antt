@@ -7,4 +7,4 @@ use Rattle.px_real_program.proofs.assembling.kept_names.Given as goal
 abbrev pub invariant-loop-file : goal.invariant-loop-file
 invariant-loop-file l =
     l.names ++ names_lists (map (λ k. k.kept.items) (drop l.file l.run.kept.items)) (map (λ m. map defined_view m.defined.items) (drop l.file l.run.looks.items))
-    ≡ l.initial.names ++ names_lists (map (λ k. k.kept.items) l.run.kept.items) (map (λ m. map defined_view m.defined.items) l.run.looks.items)
+    ≡ names_lists (map (λ k. k.kept.items) l.run.kept.items) (map (λ m. map defined_view m.defined.items) l.run.looks.items)

@@ -6,4 +6,4 @@ use Rattle.px_real_program.proofs.numbering.kept_numbers.Given as goal
 abbrev pub invariant-loop-known : goal.invariant-loop-known
 invariant-loop-known l =
     map (λ v. v.items) l.all.items ++ numbers_lists l.next (map (λ k. k.kept.items) (drop l.known-index l.run.kept.items))
-    ≡ map (λ v. v.items) l.initial.all.items ++ numbers_lists 0 (map (λ k. k.kept.items) l.run.kept.items)
+    ≡ numbers_lists 0 (map (λ k. k.kept.items) l.run.kept.items)
