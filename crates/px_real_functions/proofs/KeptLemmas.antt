@@ -1,5 +1,5 @@
 -- The parameters that are kept, one after the other.
-use Rattle.std.proofs.Common.{◌≡◌, ◌∙◌, refl, sym, ap, ap₂, ℕ, ◌+◌, ◌-◌, ◌<◌, ◌≤◌, min, Bool, true, false, Err, List, [], ◌∷◌, ◌++◌, map, length, drop, get_or, Option, Some, None, codes, append_assoc, append-nil, arith}
+use Rattle.std.proofs.Common.{◌≡◌, ◌∙◌, refl, sym, ap, ap₂, ℕ, ◌+◌, ◌-◌, ◌<◌, ◌≤◌, min, Bool, true, false, Err, List, [], ◌∷◌, ◌++◌, map, length, drop, get_or, Option, Some, None, codes, slice_get, append_assoc, append-nil, arith}
 use Rattle.std.specs.Prelude.{if◌then◌else◌}
 use Rattle.std.specs.Str.{bytes_eq}
 use Rattle.std.proofs.lemmas.List.{drop_more, drop_all, length-map, length-drop}
@@ -7,6 +7,10 @@ use Rattle.px_terms.specs.declared.types.ValueType.{ValueType}
 use Rattle.px_syntax.specs.TypedTree.{Statement}
 use Rattle.px_expressions.specs.Reading.{or_else}
 use Rattle.px_expressions.specs.Terminals.{is_in}
+use Rattle.px_real_expressions.specs.Lexemes.{Lexeme}
+use Rattle.px_real_declarations.specs.Names.{declared_name}
+use Rattle.px_real_declaring.specs.Trees.{declarator_tree, declared_tree}
+use Rattle.px_real_declaring.specs.declared.tree.Declared.{Declared}
 use Rattle.px_real_declaring.specs.declared.reading.DeclarationFault.{DeclarationFault}
 use Rattle.px_real_declaring.specs.declared.reading.DeclarationFault.TheVariants as D
 use Rattle.px_real_types.specs.declared.shape.ProfileType.{ProfileType}
@@ -15,6 +19,7 @@ use Rattle.px_real_scopes.specs.Scopes.{an_object, Scopes}
 use Rattle.px_real_scopes.specs.Behind.{with_name, IsBehind}
 use Rattle.px_real_scopes.specs.Steps.{is_memory}
 use Rattle.px_real_bodies.specs.Places.{Place}
+use Rattle.px_real_functions.specs.Parameters.{first_name}
 use Rattle.px_real_functions.specs.Definitions.{kept_types, with_ints, with_parameter, with_locals, MadeTree}
 
 -- what is put behind others, of what is seen of each
@@ -23,6 +28,17 @@ pub put_viewed : {A B C : Type 0} (f : B → C) (view : A → B) (xs : List A) (
 put_viewed f view xs i x done new v lt is hn hv so_far =
     ap (λ z. z ++ map f (map view (drop (i + 1) xs))) (hn ∙ ap (λ w. done ++ w ∷ []) hv) ∙ append_assoc done (f (view x) ∷ []) (map f (map view (drop (i + 1) xs)))
     ∙ sym (ap (λ z. done ++ map f (map view z)) (drop_more xs i x lt ∙ ap (λ z. z ∷ drop (i + 1) xs) (sym is))) ∙ so_far
+
+-- all of them were seen
+pub all_viewed : {A B C : Type 0} (f : B → C) (view : A → B) (xs : List A) (i : ℕ) (done before : List C) → length xs ≤ i → before ≡ [] → done ++ map f (map view (drop i xs)) ≡ before ++ map f (map view xs) →
+    done ≡ map f (map view xs)
+all_viewed f view xs i done before le none so_far =
+    sym (append-nil done) ∙ sym (ap (λ z. done ++ map f (map view z)) (drop_all i xs le)) ∙ so_far ∙ ap (λ z. z ++ map f (map view xs)) none
+
+-- the first that is declared has the name
+pub named_first : (all : List Lexeme) (xs : List Declared) (x : Declared) → Some x ≡ slice_get xs 0 → declared_name (declarator_tree all x.declarator) ≡ first_name (map (declared_tree all) xs)
+named_first all [] x h = absurd cc
+named_first all (y ∷ ys) x h = let e : x ≡ y = cc in ap (λ z. declared_name (declarator_tree all z.declarator)) e
 
 none_there : {A : Type 0} (o : Option A) → ((a : A) → o ≡ Some a → ⊥) → o ≡ None
 none_there (Some a) h = absurd (h a refl)
