@@ -28,8 +28,8 @@ loop-at-preserved-then-begins_attribute g c =
       opens (g.T.TypeNames.named c.args.types.now) c.loop-at.attribute t (drop (i + 1) ts) (drop i ts) (drop_mapped (see c.args.on.source.now) c.args.on.symbols.now i blank c.loop-at-test.true) c.loop-at.open none c.loop-at.invariant.1 c.if-begins_attribute.ensures,
     )
 
-pub returns-in_ok-from_slice : goal.returns-in_ok-from_slice
-returns-in_ok-from_slice g c =
+pub returns-then-is_called : goal.returns-then-is_called
+returns-then-is_called g c =
     let i = c.loop-at.at in
     let ts = seen c.args.on in
     let t : Lexeme = see c.args.on.source.now (slice_index_or c.args.on.symbols.now i blank) in
