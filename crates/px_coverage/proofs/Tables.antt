@@ -42,13 +42,14 @@ use Rattle.px_soundness.proofs.WellFormed.{GoodAtom, Complete, WellTyped, Comple
 use Rattle.px_soundness.proofs.AtomHeaps.{Placed, placed_to}
 use Rattle.px_soundness.proofs.EntryHeaps.{apart_all_true}
 use Rattle.px_soundness.proofs.Walks.{IsOwn, Good1, item_good}
-use Rattle.px_symexec.specs.Prefixes.{Prefix, Dead, Choice, Ended, Dropped, «Past» as Beyond}
-use Rattle.px_symexec.specs.Tables.{IsOpenState, entry_of, undecided, IsTable}
+use Rattle.px_symexec.specs.Prefixes.{Prefix, Dead, Choice, Ended, Dropped, «Past» as Beyond, prefixes_of}
+use Rattle.px_symexec.specs.Tables.{IsLive, IsOpenState, entry_of, undecided}
 use Rattle.px_symexec.specs.Laws.{IsShown, IsSpent}
 use Rattle.px_symexec.proofs.Lists.{IsIn, in_contains, in_right}
-use Rattle.px_symexec.proofs.ShownLemmas.{EndsIn, covered}
+use Rattle.px_symexec.proofs.ShownLemmas.{EndsIn, taken, prefixes_are_shown}
+use Rattle.px_account.proofs.ShowLemmas.{accounts_show}
 use Rattle.px_coverage.specs.Covered.{Execution, IsOf, Begins, IsCovered}
-use Rattle.px_coverage.specs.Laws.{HasCoveringTables, TablesCover}
+use Rattle.px_coverage.specs.Laws.{HasCoveringTables, ShowsPrefixes, TablesCover, ShownTablesCover, AuditedTablesCover}
 use Rattle.px_coverage.proofs.Stands.{Stands, stands_fits, found_within, found_placed, placed_filter}
 use Rattle.px_coverage.proofs.Follows.{Moves, Calls}
 use Rattle.px_coverage.proofs.Follows as follows
@@ -260,6 +261,14 @@ module _ (P : CoreProgram) (j : JobTree) (same_types : j.types ≡ P.types) (few
   open_followed (Cut s gap) (o, ask, b) = open_at s o ask
   open_followed (Past s) h = absurd h
 
+  -- so a prefix that ends so is live
+  ends_live : (p : Prefix) → EndsIn Followed p → IsLive j.kinds p
+  ends_live (Dead s) h = absurd h
+  ends_live (Choice s) h = absurd h
+  ends_live (Ended s exit result) h = open_followed (Ends s exit result) h
+  ends_live (Dropped s gap) h = open_followed (Cut s gap) h
+  ends_live (Beyond s) h = absurd h
+
   -- ---- what the table shows
 
   entry_is_of : (s : State) (exit : Exit) (result : Option Content) (model : List Value) → Followed (Ends s exit result) → IsOf e (entry_of j s exit result model)
@@ -303,16 +312,22 @@ module _ (P : CoreProgram) (j : JobTree) (same_types : j.types ≡ P.types) (few
       let gap : Gap = record { trace = []; cause = why } in
       inr (any_of (λ (g : Gap). Begins g.trace e.trace) table.drops gap (subst (λ gs. Contains gs gap) (sym is) (in_contains gap (before ++ gap ∷ []) (in_right gap before (gap ∷ []) (inl refl)))) (e.trace, refl))
 
-  pub table_covers : (table : Table) → IsTable j table → Followed (Next (start j)) → IsCovered e table
-  table_covers table is h =
-      let (p, ends, k) = covered j Followed table is goes open_followed h in
-      elim k [ inl i ↦ shown table p ends i | inr i ↦ spent table i ]
+  pub table_covers : (table : Table) → ShowsPrefixes j table → Followed (Next (start j)) → IsCovered e table
+  table_covers table shows h =
+      let (p, i, ends) = taken j Followed goes (Next (start j)) h in
+      elim (shows p (in_contains p (prefixes_of j) i) (ends_live p ends)) [ inl k ↦ shown table p ends k | inr k ↦ spent table k ]
 
-pub tables_cover : TablesCover
-tables_cover P j table lowered covering is arguments before calling trace ending after ((n, made), few) =
+pub shown_tables_cover : ShownTablesCover
+shown_tables_cover P j table lowered covering shows arguments before calling trace ending after ((n, made), few) =
     let e : Execution = record { arguments = arguments; before = before; trace = trace; ending = ending; after = after } in
     let body = lowered.typed j.proc.0 j.body lowered.job.body in
     let cells = written_cells before j.body.parameters arguments calling.written in
     let ends = calls_stay mark_of (Some j.limits.unroll) P lowered.typed j.proc.0 j.body lowered.job.body arguments before calling.well_typed cells trace ending after (n, made) in
-    table_covers P j lowered.job.types lowered.few_parameters e calling.well_typed ends.0 few body.slots lowered.well_formed.outcome covering table is
+    table_covers P j lowered.job.types lowered.few_parameters e calling.well_typed ends.0 few body.slots lowered.well_formed.outcome covering table shows
     (inl (n, refl, at_start_under_way P j lowered.job.types lowered.job.body lowered.job.constants body lowered.well_formed lowered.frees e calling n made), at_start refl)
+
+pub tables_cover : TablesCover
+tables_cover P j table lowered covering is = shown_tables_cover P j table lowered covering (prefixes_are_shown j table is)
+
+pub audited_tables_cover : AuditedTablesCover
+audited_tables_cover P j table account lowered covering h = shown_tables_cover P j table lowered covering (accounts_show j table account h)

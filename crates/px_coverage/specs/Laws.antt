@@ -1,5 +1,5 @@
 -- The table of a job covers the executions of its procedure.
-use Rattle.std.specs.Prelude.{◌≡◌, ℕ, ◌≤◌, length, All, Some}
+use Rattle.std.specs.Prelude.{◌≡◌, ◌⊎◌, ℕ, ◌≤◌, length, All, Contains, Some}
 use Rattle.px_base.specs.Bounds.{most_variables}
 use Rattle.px_base.specs.declared.trace.ProcId.{ProcId}
 use Rattle.px_core.specs.BodyTree.{BodyTree}
@@ -12,7 +12,11 @@ use Rattle.px_callgraph.specs.JobTree.{JobTree, callee_in}
 use Rattle.px_callgraph.specs.Callees.{NamedIn}
 use Rattle.px_meaning.specs.CoreCalls.{CoreProgram, CoreCallsWithin}
 use Rattle.px_meaning.specs.CoreTypes.{KeepsTypes}
-use Rattle.px_symexec.specs.Tables.{IsTable}
+use Rattle.px_symexec.specs.Prefixes.{Prefix, prefixes_of}
+use Rattle.px_symexec.specs.Tables.{IsLive, IsTable}
+use Rattle.px_symexec.specs.Laws.{IsShown, IsSpent}
+use Rattle.px_account.specs.declared.accounts.Account.{Account}
+use Rattle.px_account.specs.Accounts.{AccountsFor}
 use Rattle.px_soundness.specs.Laws.{IsJobOf}
 use Rattle.px_coverage.specs.Covered.{Covers}
 use Rattle.px_coverage.specs.Frees.{FreeKnown}
@@ -39,3 +43,17 @@ HasCoveringTables P j =
 -- The table of a job covers its procedure, where the tables of the procedures that it calls do.
 abbrev pub TablesCover : Type 0
 TablesCover = (P : CoreProgram) (j : JobTree) (table : Table) → IsLoweredJob P j → HasCoveringTables P j → IsTable j table → CoversProcedure P j.limits.unroll j.proc j.body table
+
+-- the table shows each live prefix of the job that ends, or says that a budget is spent
+abbrev pub ShowsPrefixes : JobTree → Table → Type 0
+ShowsPrefixes j table = (p : Prefix) → Contains (prefixes_of j) p → IsLive j.kinds p → IsShown j table p ⊎ IsSpent j table
+
+-- A table of whatever origin covers the procedure, where it shows the live prefixes of the job.
+abbrev pub ShownTablesCover : Type 0
+ShownTablesCover = (P : CoreProgram) (j : JobTree) (table : Table) → IsLoweredJob P j → HasCoveringTables P j → ShowsPrefixes j table → CoversProcedure P j.limits.unroll j.proc j.body table
+
+-- And where an account accounts for it.
+abbrev pub AuditedTablesCover : Type 0
+AuditedTablesCover =
+    (P : CoreProgram) (j : JobTree) (table : Table) (account : Account) → IsLoweredJob P j → HasCoveringTables P j → AccountsFor j table account →
+    CoversProcedure P j.limits.unroll j.proc j.body table

@@ -1,4 +1,4 @@
-ghost use Rattle.px_coverage.specs.Laws.{TablesCover};
+ghost use Rattle.px_coverage.specs.Laws.{AuditedTablesCover, ShownTablesCover, TablesCover};
 ghost use Rattle.px_coverage.specs.FullerLaws.{CutsAreHonest};
 ghost use Rattle.px_coverage.specs.WorkedCovers.{WorkedCovers};
 
@@ -9,6 +9,18 @@ use px_meaning::Fuller;
 /// asked of other tables.
 pub fn tables_cover()
     ensures { TablesCover }
+{}
+
+/// A law: the same of any table that shows the live prefixes of the job that end, or says that a budget is spent, wherever
+/// it comes from.
+pub fn shown_tables_cover()
+    ensures { ShownTablesCover }
+{}
+
+/// A law: the same of a table that an account accounts for: an audit that finds no fault shows that nothing is left out,
+/// whoever made the table.
+pub fn audited_tables_cover()
+    ensures { AuditedTablesCover }
 {}
 
 /// A law: what a table says of a procedure it says of each meaning in which what isn't understood has executions too, up

@@ -1,0 +1,15 @@
+pub mod FirstStops
+pub mod ShowLemmas
+pub mod HonestLemmas
+pub mod OneHonest
+pub mod AuditLaws
+pub mod StandLemmas
+pub mod StopLemmas
+pub mod LeftLemmas
+pub mod AskLemmas
+pub mod PassLemmas
+pub mod AccountLoop
+pub mod AuditLoop
+pub mod RowLemmas
+pub mod TestLemmas
+pub mod PointLemmas
