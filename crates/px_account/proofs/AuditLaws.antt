@@ -1,7 +1,7 @@
 -- An account accounts for a table, or it fails first at one place.
 use Rattle.std.proofs.Common.{◌≡◌, ℕ, zero, suc, List, [], ◌∷◌, refl, ap, sym, ◌∙◌}
 use Rattle.px_callgraph.specs.JobTree.{JobTree}
-use Rattle.px_account.specs.declared.accounts.Point.{Point}
+use Rattle.px_claims.specs.declared.accounts.Point.{Point}
 use Rattle.px_account.specs.Accounts.{Reading, Reads, FailsAt, after, whole}
 use Rattle.px_account.specs.Laws.{OneAudit}
 

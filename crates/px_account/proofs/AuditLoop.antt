@@ -9,8 +9,8 @@ use Rattle.px_callgraph.specs.JobTree.{JobTree}
 use Rattle.px_callgraph.specs.declared.outcomes.StepOutcome.TheVariants.{Next}
 use Rattle.px_callgraph.specs.Alternatives.{Walk, Leads, start}
 use Rattle.px_symexec.specs.Prefixes.{Prefix}
-use Rattle.px_account.specs.declared.accounts.Point.{Point}
-use Rattle.px_account.specs.declared.accounts.Point.TheVariants as point
+use Rattle.px_claims.specs.declared.accounts.Point.{Point}
+use Rattle.px_claims.specs.declared.accounts.Point.TheVariants as point
 use Rattle.px_account.specs.declared.passing.Count.{Count}
 use Rattle.px_account.specs.declared.stops.Stop.{Stop}
 use Rattle.px_account.specs.declared.branch_points.BranchPoint.{BranchPoint}

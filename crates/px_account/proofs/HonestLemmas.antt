@@ -21,9 +21,9 @@ use Rattle.px_symexec.specs.Tables.{Selects, IsLive, ended_case, ended_cases, Ro
 use Rattle.px_symexec.proofs.LiveLemmas.{IsNotLive, Goes}
 use Rattle.px_symexec.proofs.TableLemmas.{ended_more}
 use Rattle.px_symexec.proofs.UniqueLemmas.{one_table}
-use Rattle.px_account.specs.declared.accounts.Point.{Point}
-use Rattle.px_account.specs.declared.accounts.Point.TheVariants as point
-use Rattle.px_account.specs.declared.accounts.Account.{Account}
+use Rattle.px_claims.specs.declared.accounts.Point.{Point}
+use Rattle.px_claims.specs.declared.accounts.Point.TheVariants as point
+use Rattle.px_claims.specs.declared.accounts.Account.{Account}
 use Rattle.px_account.specs.Accounts.{FirstStop, first_stop, First, Reading, Reads, ReadsHonestly, IsDead, IsRefutedBy, IsEntryAt, IsEndAfter, IsBeforeEnd, AccountsFor, IsHonestAccount}
 use Rattle.px_account.specs.Laws.{HonestAccounts}
 use Rattle.px_account.proofs.FirstStops.{prefixes_from, AreReached, Stopped, stopped}

@@ -17,9 +17,9 @@ use Rattle.px_callgraph.specs.JobTree.{JobTree}
 use Rattle.px_callgraph.specs.Alternatives.{Leads}
 use Rattle.px_symexec.specs.Prefixes.{Prefix, Dead, Choice, Ended, Dropped, Past, stop_of, constraint}
 use Rattle.px_symexec.specs.Tables.{IsLive, Gives, Misses, IsRow}
-use Rattle.px_account.specs.declared.accounts.Point.{Point}
-use Rattle.px_account.specs.declared.accounts.Point.TheVariants as point
-use Rattle.px_account.specs.declared.accounts.Account.{Account}
+use Rattle.px_claims.specs.declared.accounts.Point.{Point}
+use Rattle.px_claims.specs.declared.accounts.Point.TheVariants as point
+use Rattle.px_claims.specs.declared.accounts.Account.{Account}
 use Rattle.px_account.specs.Accounts.{First, first_stop, Reading, after, whole, ReadsHonestly, IsDead, IsRefutedBy, IsLeastRefuted, IsHonest, IsEndAfter, IsBeforeEnd}
 use Rattle.px_account.specs.Answers.{IsLivePoint}
 use Rattle.px_account.specs.Laws.{OneHonestAccount}

@@ -12,8 +12,8 @@ use Rattle.px_callgraph.specs.declared.states.State.{State}
 use Rattle.px_callgraph.specs.JobTree.{JobTree}
 use Rattle.px_symexec.specs.Prefixes.{Prefix, Dead, Choice, Ended, Dropped, Past, stop_of, constraint}
 use Rattle.px_symexec.specs.Tables.{IsLive, IsOpenState, entry_of, undecided}
-use Rattle.px_account.specs.declared.accounts.Point.{Point}
-use Rattle.px_account.specs.declared.accounts.Point.TheVariants as point
+use Rattle.px_claims.specs.declared.accounts.Point.{Point}
+use Rattle.px_claims.specs.declared.accounts.Point.TheVariants as point
 use Rattle.px_account.specs.declared.stops.Stop.{Stop}
 use Rattle.px_account.specs.declared.stops.Stop.TheVariants as S
 use Rattle.px_account.specs.Accounts.{IsDead, IsLeastRefuted, IsHonest, IsBeforeEnd}

@@ -20,8 +20,8 @@ use Rattle.px_symexec.specs.Tables.{IsLive, Row, Gives, Misses, IsRow, entry_of,
 use Rattle.px_symexec.specs.Laws.{IsShown, IsSpent}
 use Rattle.px_symexec.proofs.Lists.{IsIn, in_contains, contains_in, in_left, in_right, in_either}
 use Rattle.px_symexec.proofs.LiveLemmas.{IsNotLive, Goes}
-use Rattle.px_account.specs.declared.accounts.Point.{Point}
-use Rattle.px_account.specs.declared.accounts.Point.TheVariants as point
+use Rattle.px_claims.specs.declared.accounts.Point.{Point}
+use Rattle.px_claims.specs.declared.accounts.Point.TheVariants as point
 use Rattle.px_account.specs.Accounts.{FirstStop, first_stop, Reading, Reads, IsDead, IsRefutedBy, IsEntryAt, IsEndAfter}
 use Rattle.px_account.specs.Laws.{AccountsShow}
 use Rattle.px_account.proofs.FirstStops.{prefixes_from, AreReached, Stopped, stopped}

@@ -15,8 +15,8 @@ use Rattle.px_callgraph.specs.JobTree.{JobTree}
 use Rattle.px_callgraph.specs.Alternatives.{Leads}
 use Rattle.px_symexec.specs.Prefixes.{Prefix, Choice, Past, stop_of, constraint}
 use Rattle.px_symexec.specs.Tables.{Gives, Misses, IsRow, undecided}
-use Rattle.px_account.specs.declared.accounts.Point.{Point}
-use Rattle.px_account.specs.declared.accounts.Point.TheVariants as point
+use Rattle.px_claims.specs.declared.accounts.Point.{Point}
+use Rattle.px_claims.specs.declared.accounts.Point.TheVariants as point
 use Rattle.px_account.specs.declared.branch_points.BranchPoint.{BranchPoint}
 use Rattle.px_account.specs.declared.passing.Count.{Count}
 use Rattle.px_account.specs.declared.stops.Stop.{Stop}

@@ -6,8 +6,8 @@ use Rattle.px_callgraph.specs.JobTree.{JobTree}
 use Rattle.px_callgraph.specs.Alternatives.{Leads}
 use Rattle.px_check.specs.declared.checked.Checked.{Checked}
 use Rattle.px_check.specs.Answers.{entry_of}
-use Rattle.px_account.specs.declared.accounts.Point.{Point}
-use Rattle.px_account.specs.declared.accounts.Account.{Account}
+use Rattle.px_claims.specs.declared.accounts.Point.{Point}
+use Rattle.px_claims.specs.declared.accounts.Account.{Account}
 use Rattle.px_account.specs.declared.auditing.AuditFault.{AuditFault}
 use Rattle.px_account.specs.declared.auditing.AuditFault.TheVariants.{Wrong, NoMemory}
 use Rattle.px_account.specs.declared.auditing.Told.{Told}

@@ -5,7 +5,7 @@ use Rattle.px_callgraph.specs.JobTree.{JobTree}
 use Rattle.px_symexec.specs.Prefixes.{Prefix, prefixes_of}
 use Rattle.px_symexec.specs.Tables.{IsLive, IsTable}
 use Rattle.px_symexec.specs.Laws.{IsShown, IsSpent}
-use Rattle.px_account.specs.declared.accounts.Account.{Account}
+use Rattle.px_claims.specs.declared.accounts.Account.{Account}
 use Rattle.px_account.specs.Accounts.{whole, AccountsFor, FailsAt, IsHonestAccount}
 
 -- A table that an account accounts for shows each live prefix, or a budget is spent.

@@ -17,7 +17,7 @@ use crate::looks::{end_at, is_before_end, is_choice, is_dead, is_live, is_past};
 use crate::passing::{Count, pass};
 use crate::rows::{is_drop_at, is_entry_at};
 use crate::stops::{Stop, run_on, state_at};
-use crate::{Account, Point};
+use px_claims::{Account, Point};
 use px_callgraph::{Job, StepOutcome};
 use px_check::Checked;
 use px_entry::{Cause, Gap};

@@ -15,7 +15,7 @@ use crate::left::advance;
 use crate::looks::{end_at, is_dead};
 use crate::passing::{Count, pass};
 use crate::stops::{Stop, run_on, state_at};
-use crate::{Account, Point};
+use px_claims::{Account, Point};
 use px_callgraph::{Job, State, StepOutcome};
 use px_solver::Decision;
 use px_terms::{Domain, Items, NoMemory};

@@ -3,7 +3,6 @@
 //! names the first point that isn't so.
 #![tactic(auto)]
 
-mod accounts;
 mod asks;
 mod auditing;
 mod branch_points;
@@ -16,7 +15,6 @@ mod passing;
 mod rows;
 mod stops;
 
-pub use accounts::{Account, Point};
 pub use auditing::{AuditFault, audit};
 pub use honest::account;
 pub use laws::{accounts_show, honest_accounts, one_audit, one_honest_account};

@@ -3,7 +3,7 @@ ghost use Rattle.px_callgraph.specs.JobTree.{JobTree};
 ghost use Rattle.px_account.specs.Stops.{ForksRightly, AreForks, extensions_of, places_of};
 ghost use Rattle.px_account.specs.Answers.{IsPassed};
 
-use crate::Point;
+use px_claims::Point;
 use crate::branch_points::BranchPoint;
 use crate::left::open;
 use crate::stops::Stop;

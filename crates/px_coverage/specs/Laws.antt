@@ -15,7 +15,7 @@ use Rattle.px_meaning.specs.CoreTypes.{KeepsTypes}
 use Rattle.px_symexec.specs.Prefixes.{Prefix, prefixes_of}
 use Rattle.px_symexec.specs.Tables.{IsLive, IsTable}
 use Rattle.px_symexec.specs.Laws.{IsShown, IsSpent}
-use Rattle.px_account.specs.declared.accounts.Account.{Account}
+use Rattle.px_claims.specs.declared.accounts.Account.{Account}
 use Rattle.px_account.specs.Accounts.{AccountsFor}
 use Rattle.px_soundness.specs.Laws.{IsJobOf}
 use Rattle.px_coverage.specs.Covered.{Covers}
