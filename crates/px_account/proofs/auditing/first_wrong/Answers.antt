@@ -64,12 +64,10 @@ returns-in_default-pop-clause-fault g c =
     c.in_ok-count.count left.items (c.in_ok-count.ensures.passed j) (nil_from_length left.items (omega (arith, c.in_default-pop.ensures.cases.0, left.ok.0)))
     c.is_over.result (map entry_of c.meet.result.entries.now) c.meet.result.drops.now c.meet.ensures.entries c.meet.ensures.drops c.is_over.ensures)
 
-pub advance-requires : goal.advance-requires
-advance-requires g c =
-    let j = job_tree c.args.job.now in record {
-      parameters = c.requires.parameters;
-      fork = (forks_pop j c.pop.new.self.items c.in-Some.next (subst (AreForks j) c.in-Some.ensures.items (c.in_ok-count.ensures.forks j c.in_ok-stop.ensures.forks c.loop-i.invariant.auditing.forks))).0;
-    }
+pub advance-requires-clause-fork : goal.advance-requires-clause-fork
+advance-requires-clause-fork g c =
+    let j = job_tree c.args.job.now in
+    (forks_pop j c.pop.new.self.items c.in-Some.next (subst (AreForks j) c.in-Some.ensures.items (c.in_ok-count.ensures.forks j c.in_ok-stop.ensures.forks c.loop-i.invariant.auditing.forks))).0
 
 pub loop-i-preserved : goal.loop-i-preserved
 loop-i-preserved g c =

@@ -37,12 +37,10 @@ returns-in_default-pop g c =
       kinds = c.in_ok-point.ensures.kinds ∙ l.invariant.kinds ∙ sym c.requires.kinds;
     }
 
-pub advance-requires : goal.advance-requires
-advance-requires g c =
-    let j = job_tree c.args.job.now in record {
-      parameters = c.requires.parameters;
-      fork = (forks_pop j c.pop.new.self.items c.in-Some.next (subst (AreForks j) c.in-Some.ensures.items (c.in_ok-count.ensures.forks j c.in_ok-stop.ensures.forks c.loop-left.invariant.under_way.forks))).0;
-    }
+pub advance-requires-clause-fork : goal.advance-requires-clause-fork
+advance-requires-clause-fork g c =
+    let j = job_tree c.args.job.now in
+    (forks_pop j c.pop.new.self.items c.in-Some.next (subst (AreForks j) c.in-Some.ensures.items (c.in_ok-count.ensures.forks j c.in_ok-stop.ensures.forks c.loop-left.invariant.under_way.forks))).0
 
 pub loop-left-smaller : goal.loop-left-smaller
 loop-left-smaller g c =
