@@ -1,0 +1,4 @@
+pub mod Ranges
+pub mod TypedOperands
+pub mod TypedScopes
+pub mod Laws
