@@ -1,3 +1,6 @@
 pub mod Choices
 pub mod RangeLemmas
 pub mod OperandsTyped
+pub mod OperatorsTyped
+pub mod CallsTyped
+pub mod ExpressionsTyped

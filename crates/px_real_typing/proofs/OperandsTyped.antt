@@ -74,7 +74,7 @@ module _ (P : TypedProgram) (locals : LocalTypes) (structs : ℕ → Type 0) (en
   passed (T.cell e field b site) t h = ((t, h), tt)
   passed (T.allocate b site) t h = ((t, h), tt)
   passed (T.get_char site) t h = ((t, h), tt)
-  passed (T.call proc es result site) t (e, ts, h, k) = ((ts, h, less (P.procedures proc.0) ts (Some result) k), tt)
+  passed (T.call proc es result site) t (e, (ts, h, k)) = ((ts, h, less (P.procedures proc.0) ts (Some result) k), tt)
   passed (T.stop number site ps) t h = ((t, h), tt)
 
   onto : (e : Expression) (rest : Expressions) → Passed e → ArePassed P locals rest → ArePassed P locals (T.an_expression e rest)
