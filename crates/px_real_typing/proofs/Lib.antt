@@ -4,3 +4,4 @@ pub mod OperandsTyped
 pub mod OperatorsTyped
 pub mod CallsTyped
 pub mod ExpressionsTyped
+pub mod EffectsTyped
