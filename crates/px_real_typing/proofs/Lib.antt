@@ -5,3 +5,11 @@ pub mod OperatorsTyped
 pub mod CallsTyped
 pub mod ExpressionsTyped
 pub mod EffectsTyped
+pub mod ShapesTyped
+pub mod ScopeLemmas
+pub mod EnteringTyped
+pub mod BehindTyped
+pub mod EnvironmentTyped
+pub mod WalkLemmas
+pub mod HeldTyped
+pub mod BodiesTyped

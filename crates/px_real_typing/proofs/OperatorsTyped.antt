@@ -98,11 +98,8 @@ module _ (P : TypedProgram) (locals : LocalTypes) (structs : ℕ → Type 0) (en
       → ((x y : Expression) → Is V.Int x → Is V.Int y → IsCondition P locals (T.compare of_ints x y site))
       → ((x y : Expression) (block : TypeId) → Is (V.Pointer block) x → Is (V.Pointer block) y → IsCondition P locals (T.compare of_places x y site)) → Good (equated env of_ints of_places o site a b)
   equated_typed of_ints of_places o site a b h k ints places =
-      compared_typed t (if is_pointer t then of_places else of_ints) o site a b h k (λ x y hx hy. by x y hx hy (is_pointer t) refl)
+      compared_typed (common_type a b) (if is_pointer (common_type a b) then of_places else of_ints) o site a b h k (λ x y hx hy. by x y hx hy (is_pointer (common_type a b)) refl)
     where
-      abbrev t : ProfileType
-      t = common_type a b
-
       by : (x y : Expression) → Is (value_type env (common_type a b)) x → Is (value_type env (common_type a b)) y → (p : Bool) → is_pointer (common_type a b) ≡ p → IsCondition P locals (T.compare (if p then of_places else of_ints) x y site)
       by x y hx hy true is =
           let e = sym (pointer_value env (common_type a b) is) in

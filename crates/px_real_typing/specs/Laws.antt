@@ -22,5 +22,5 @@ use Rattle.px_real_typing.specs.TypedScopes.{RunAgrees, AreTyped, AreNumbered, C
 
 -- ---- expressions
 
-abbrev pub ExpressionsKeepTyping : Type 0 
+abbrev pub ExpressionsKeepTyping : Type 0
 ExpressionsKeepTyping = (P : TypedProgram) (locals : LocalTypes) (structs : ℕ → Type 0) (env : Environment) → Agrees P locals structs env → (e : ExpressionTree) → IsOperand P locals structs env (valued env e)
