@@ -39,7 +39,7 @@ first_any R says on (x ∷ xs) = by (says x) (on x)
     by (Some b) k = k
     by None k = first_any R says on xs
 
-module _ (structs : ℕ → Type 0) where
+module _ (structs : ℕ → Bool) where
   abbrev IsTypeIf : Option ProfileType → Type 0
   IsTypeIf o = IfSome o (IsTypeOf structs)
 
@@ -96,7 +96,7 @@ module _ (structs : ℕ → Type 0) where
     pub definition_typed : (h : HeadTree) (f : SignatureTree) → IsShapeOf structs f.gives → IsFunction structs (defined_function st h f)
     definition_typed h f g = defined_typed h.declarations (in_profile f.gives) (parameters_in st f.parameters) (profiled structs f.gives g)
 
-module _ (structs : ℕ → Type 0) (run : Run) (locals : LocalTypes) where
+module _ (structs : ℕ → Bool) (run : Run) (locals : LocalTypes) where
   abbrev Typed : Scopes → Type 0
   Typed st = AreTyped structs run locals st
 

@@ -52,7 +52,7 @@ use Rattle.px_real_typing.proofs.EnvironmentTyped.{value_is, value_if}
 use Rattle.px_real_typing.proofs.WalkLemmas.{From, stands, walks_on, walks_as, walks_also, walks_then, walks_given, scopes_walk, enters, scoped, local_walks}
 use Rattle.px_real_typing.proofs.HeldTyped.{unread_typed, held_parts, decided_typed, decided_if_typed, initialiser_typed}
 
-module _ (P : TypedProgram) (structs : ℕ → Type 0) (ps : List ValueType) (locals : LocalTypes) (f : Function) (known : RunAgrees P structs f.run) where
+module _ (P : TypedProgram) (structs : ℕ → Bool) (ps : List ValueType) (locals : LocalTypes) (f : Function) (known : RunAgrees P structs f.run) where
   abbrev result : Option ValueType
   result = option_map (value_of f.run) f.returns
 

@@ -23,7 +23,7 @@ use Rattle.px_real_typing.specs.TypedOperands.{IsSignature, IsCallee, IsBlock, I
 use Rattle.px_real_typing.proofs.Choices.{of_test, all_both}
 use Rattle.px_real_typing.proofs.OperandsTyped.{all_passed, parts_typed, needed_typed, int_typed}
 
-module _ (P : TypedProgram) (locals : LocalTypes) (structs : ℕ → Type 0) (env : Environment) where
+module _ (P : TypedProgram) (locals : LocalTypes) (structs : ℕ → Bool) (env : Environment) where
   abbrev Parts : List Expression → Type 0
   Parts ps = ArePartsTyped P locals structs env ps
 

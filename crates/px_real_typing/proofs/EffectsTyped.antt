@@ -50,7 +50,7 @@ module _ (P : TypedProgram) (locals : LocalTypes) (result : Option ValueType) (i
   steps_of_acts [] h = tt
   steps_of_acts (s ∷ ss) h = (h.0.1, steps_of_acts ss h.1)
 
-module _ (P : TypedProgram) (locals : LocalTypes) (structs : ℕ → Type 0) (env : Environment) (result : Option ValueType) (inside : Bool) where
+module _ (P : TypedProgram) (locals : LocalTypes) (structs : ℕ → Bool) (env : Environment) (result : Option ValueType) (inside : Bool) where
   abbrev Is : ValueType → Expression → Type 0
   Is t e = IsOf P locals t e
 
@@ -239,7 +239,7 @@ module _ (P : TypedProgram) (locals : LocalTypes) (structs : ℕ → Type 0) (en
     performed_typed (choice_or site c b) = else_typed (choice_or site c b)
 
 -- `return` gives what the function does, or nothing
-module _ (P : TypedProgram) (locals : LocalTypes) (structs : ℕ → Type 0) (env : Environment) (inside : Bool) where
+module _ (P : TypedProgram) (locals : LocalTypes) (structs : ℕ → Bool) (env : Environment) (inside : Bool) where
   pub returned_typed : (returns : Option ProfileType) (site : Site) (o : Option Given) → IfSome o (IsGiven P locals structs env)
       → AllByRecursion (IsStatement P locals (option_map (value_type env) returns) inside) (returned env returns site o)
   returned_typed None site None h = (tt, tt)

@@ -45,11 +45,11 @@ pub record Follows (old new : Scopes) : Type 0 where
 pub follows_on : {a b c : Scopes} → Follows a b → Follows b c → Follows a c
 follows_on h g = record { block = g.block ∙ h.block; records = (let x = h.records in let y = g.records in omega (arith, x, y)); members = λ n ms e. g.members n ms (h.members n ms e) }
 
-abbrev pub Within : (ℕ → Type 0) → Scopes → Type 0
-Within structs st = (n : ℕ) → n < length st.records → structs n
+abbrev pub Within : (ℕ → Bool) → Scopes → Type 0
+Within structs st = (n : ℕ) → n < length st.records → structs n ≡ true
 
 -- and what is in scope is numbered still, and is of the structs that there are, where those declared by then are
-pub record Moves (structs : ℕ → Type 0) (old new : Scopes) (T U : Type 0) : Type 0 where
+pub record Moves (structs : ℕ → Bool) (old new : Scopes) (T U : Type 0) : Type 0 where
   pub follows : Follows old new
   pub numbered : AreNumbered new
   pub typed : Within structs new → T → U
@@ -58,7 +58,7 @@ pub came : {A B : Type 0} (o : Option A) (f : A → Option B) (b : B) → or_els
 came (Some a) f b h = (a, refl, h)
 came None f b h = absurd cc
 
-module _ (structs : ℕ → Type 0) where
+module _ (structs : ℕ → Bool) where
   pub stays : (st : Scopes) (T : Type 0) → AreNumbered st → Moves structs st st T T
   stays st T h = record { follows = record { block = refl; records = omega arith; members = λ n ms e. e }; numbered = h; typed = λ w t. t }
 
@@ -78,7 +78,7 @@ module _ (structs : ℕ → Type 0) where
       let m = one st x c.0 c.1 h in
       moves_on m (turns scopes T next one xs c.0 st1 c.2 m.numbered)
 
-module _ (structs : ℕ → Type 0) (run : Run) (locals : LocalTypes) where
+module _ (structs : ℕ → Bool) (run : Run) (locals : LocalTypes) where
   abbrev Typed : Scopes → Type 0
   Typed st = AreTyped structs run locals st
 

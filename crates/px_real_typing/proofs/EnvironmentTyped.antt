@@ -51,7 +51,7 @@ module _ (run : Run) (st : Scopes) where
       subst (λ r. AgreesWith (P.procedures s.proc.0) (map (value_type (environment run st)) (kept_types s.parameters)) r) (sym (value_if s.result))
       (subst (λ ts. AgreesWith (P.procedures s.proc.0) ts (option_map (value_of run) s.result)) (sym (values_are (kept_types s.parameters))) h)
 
-module _ (P : TypedProgram) (structs : ℕ → Type 0) (run : Run) (locals : LocalTypes) (st : Scopes)
+module _ (P : TypedProgram) (structs : ℕ → Bool) (run : Run) (locals : LocalTypes) (st : Scopes)
     (known : RunAgrees P structs run) (numbered : AreNumbered st) (typed : AreTyped structs run locals st) (covers : Covers P structs run st) where
   abbrev env : Environment
   env = environment run st

@@ -31,7 +31,7 @@ use Rattle.px_real_typing.proofs.OperandsTyped.{parts_typed, pointer_parts_typed
 use Rattle.px_real_typing.proofs.OperatorsTyped.{binary_typed, cast_typed, indirected_typed, prefixed_typed, arrowed_typed, dotted_typed}
 use Rattle.px_real_typing.proofs.CallsTyped.{call_typed}
 
-module _ (P : TypedProgram) (locals : LocalTypes) (structs : ℕ → Type 0) (env : Environment) (ok : Agrees P locals structs env) where
+module _ (P : TypedProgram) (locals : LocalTypes) (structs : ℕ → Bool) (env : Environment) (ok : Agrees P locals structs env) where
   abbrev Good : Operand → Type 0
   Good a = IsOperand P locals structs env a
 

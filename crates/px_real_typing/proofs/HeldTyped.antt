@@ -23,7 +23,7 @@ use Rattle.px_real_typing.proofs.Choices.{all_both}
 use Rattle.px_real_typing.proofs.OperandsTyped.{parts_typed, deciding_typed}
 use Rattle.px_real_typing.proofs.ExpressionsTyped.{valued_typed}
 
-module _ (P : TypedProgram) (structs : ℕ → Type 0) (locals : LocalTypes) (f : Function) (st : Scopes) (ok : Agrees P locals structs (environment f.run st)) where
+module _ (P : TypedProgram) (structs : ℕ → Bool) (locals : LocalTypes) (f : Function) (st : Scopes) (ok : Agrees P locals structs (environment f.run st)) where
   abbrev Passed : Expression → Type 0
   Passed e = IsPassed P locals structs (environment f.run st) e
 

@@ -13,3 +13,4 @@ pub mod EnvironmentTyped
 pub mod WalkLemmas
 pub mod HeldTyped
 pub mod BodiesTyped
+pub mod FunctionsTyped

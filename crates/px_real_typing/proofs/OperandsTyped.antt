@@ -46,7 +46,7 @@ module _ (env : Environment) where
 pub fits : (n : ℕ) → n < 2147483648 → FitsSigned w32 (pos n)
 fits n h = record { sfits = h }
 
-module _ (P : TypedProgram) (locals : LocalTypes) (structs : ℕ → Type 0) (env : Environment) where
+module _ (P : TypedProgram) (locals : LocalTypes) (structs : ℕ → Bool) (env : Environment) where
   abbrev Is : ValueType → Expression → Type 0
   Is t e = IsOf P locals t e
 

@@ -41,7 +41,7 @@ use Rattle.px_real_typing.proofs.OperandsTyped.{pointing, pointer_value, plain_v
 
 -- ---- what is read of types
 
-module _ (structs : ℕ → Type 0) where
+module _ (structs : ℕ → Bool) where
   pub profiled : (s : Shape) → IsShapeOf structs s → IfSome (in_profile s) (IsTypeOf structs)
   profiled (S.Value B.Int stars) h = h
   profiled (S.Value (B.Struct n) zero) h = tt
@@ -49,7 +49,7 @@ module _ (structs : ℕ → Type 0) where
   profiled (S.Array base stars) h = tt
   profiled S.Outside h = tt
 
-module _ (P : TypedProgram) (locals : LocalTypes) (structs : ℕ → Type 0) (env : Environment) where
+module _ (P : TypedProgram) (locals : LocalTypes) (structs : ℕ → Bool) (env : Environment) where
   abbrev Is : ValueType → Expression → Type 0
   Is t e = IsOf P locals t e
 

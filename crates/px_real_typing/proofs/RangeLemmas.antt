@@ -67,7 +67,7 @@ pointer_is t =
     let b : t.stars + 1 - 1 ≡ t.stars = omega arith in
     ap (λ b. if b then Some (record { base = t.base; stars = t.stars + 1 - 1 }) else None) a ∙ ap (λ n. Some (record { base = t.base; stars = n })) b
 
-module _ (structs : ℕ → Type 0) where
+module _ (structs : ℕ → Bool) where
   pub pointee_of : (t u : ProfileType) → pointee t ≡ Some u → IsTypeOf structs t → IsTypeOf structs u
   pointee_of t u e h = by (is_pointer t) e
     where
@@ -75,12 +75,12 @@ module _ (structs : ℕ → Type 0) where
       by true e = subst (IsTypeOf structs) (same_Some _ u e) (h.0, let l : t.stars ≤ 2 = h.1 in omega (arith, l))
       by false e = absurd cc
 
-  pub struct_of : (t : ProfileType) (n : ℕ) → number_of t ≡ Some n → IsTypeOf structs t → structs n
+  pub struct_of : (t : ProfileType) (n : ℕ) → number_of t ≡ Some n → IsTypeOf structs t → structs n ≡ true
   struct_of t n e h = (subst (IsTypeOf structs) (struct_is t n e) h).0
 
   -- ---- what is known
 
-  pub known_struct : (n : ℕ) → structs n → IsKnownOf structs (known (struct n))
+  pub known_struct : (n : ℕ) → structs n ≡ true → IsKnownOf structs (known (struct n))
   known_struct n h = (h, omega arith)
 
   pub known_int : IsKnownOf structs (known int)

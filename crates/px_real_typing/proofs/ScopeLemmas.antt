@@ -109,7 +109,7 @@ module _ (Q : BindingTree → Type 0) where
 
 -- ---- what names mean
 
-module _ (structs : ℕ → Type 0) (run : Run) (locals : LocalTypes) where
+module _ (structs : ℕ → Bool) (run : Run) (locals : LocalTypes) where
   name_meant : (word : List ℕ) (b : BindingTree) → IsBinding structs run locals b → IfSome (says_name word b) (IsMeant structs run locals)
   name_meant word (of_name name m) h = if_said (IsMeant structs run locals) (bytes_eq word name) m h
   name_meant word begins_block h = tt
@@ -132,7 +132,7 @@ module _ (structs : ℕ → Type 0) (run : Run) (locals : LocalTypes) where
 
   -- ---- structs and unions
 
-  module _ (st : Scopes) (numbered : AreNumbered st) (within : (n : ℕ) → n < length st.records → structs n) (ok : AreTyped structs run locals st) where
+  module _ (st : Scopes) (numbered : AreNumbered st) (within : (n : ℕ) → n < length st.records → structs n ≡ true) (ok : AreTyped structs run locals st) where
     record_in_shape : (n : ℕ) → n < length st.records → IsShapeOf structs (record_shape st n)
     record_in_shape n l = by (is_seen st n)
       where
@@ -173,7 +173,7 @@ module _ (structs : ℕ → Type 0) (run : Run) (locals : LocalTypes) where
 
 -- ---- members
 
-module _ (structs : ℕ → Type 0) where
+module _ (structs : ℕ → Bool) where
   abbrev pub AreMembers : List NamedTree → Type 0
   AreMembers ms = AllByRecursion (λ (m : NamedTree). IsKnownMember structs m.member) ms
 

@@ -40,12 +40,12 @@ use Rattle.px_real_typing.specs.Ranges.{IsBaseOf, IsTypeOf, IsShapeOf, IsKnownOf
 use Rattle.px_real_typing.proofs.OperatorsTyped.{profiled}
 
 -- what names, tags and places mean is of the structs that there are
-pub record AreIn (structs : ℕ → Type 0) (scope : Meanings) : Type 0 where
+pub record AreIn (structs : ℕ → Bool) (scope : Meanings) : Type 0 where
   pub named : (word : List ℕ) → IsShapeOf structs (scope.named word)
   pub tagged : (tag : List ℕ) → IsShapeOf structs (scope.tagged tag)
   pub placed : (site : Site) → IsShapeOf structs (scope.placed site)
 
-module _ (structs : ℕ → Type 0) where
+module _ (structs : ℕ → Bool) where
   abbrev In : Shape → Type 0
   In s = IsShapeOf structs s
 

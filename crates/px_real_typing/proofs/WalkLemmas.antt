@@ -1,5 +1,5 @@
 -- Walks from place to place: what is in scope, and the locals, go on, and what comes of them keeps the rules.
-use Rattle.std.proofs.Common.{arith, ◌≡◌, ◌∙◌, ◌<◌, ◌≤◌, ◌+◌, ℕ, zero, suc, List, [], ◌∷◌, ◌++◌, length, append_assoc, Option, Some, None, refl, sym, ap, subst}
+use Rattle.std.proofs.Common.{arith, ◌≡◌, ◌∙◌, ◌<◌, ◌≤◌, ◌+◌, ℕ, zero, suc, Bool, List, [], ◌∷◌, ◌++◌, length, append_assoc, Option, Some, None, refl, sym, ap, subst}
 use Rattle.std.specs.Prelude.{slice_get, ⊤}
 use Rattle.std.specs.List.{AllByRecursion}
 use Rattle.std.proofs.lemmas.List.{append-nil, length-append}
@@ -33,23 +33,23 @@ got_last [] a = refl
 got_last (x ∷ xs) a = got_last xs a
 
 -- a place, where these are the types of the parameters
-pub record IsPlaceTyped (structs : ℕ → Type 0) (ps : List ValueType) (locals : LocalTypes) (f : Function) (at : Place) : Type 0 where
+pub record IsPlaceTyped (structs : ℕ → Bool) (ps : List ValueType) (locals : LocalTypes) (f : Function) (at : Place) : Type 0 where
   pub scopes : AreTyped structs f.run locals at.scopes
   pub next : at.next ≡ length (ps ++ at.locals)
 
 -- what is known in the end
-pub record Ends (P : TypedProgram) (structs : ℕ → Type 0) (ps : List ValueType) (locals : LocalTypes) (f : Function) (at : Place) : Type 0 where
+pub record Ends (P : TypedProgram) (structs : ℕ → Bool) (ps : List ValueType) (locals : LocalTypes) (f : Function) (at : Place) : Type 0 where
   pub covers : Covers P structs f.run at.scopes
   pub locals_are : (n : ℕ) (t : ValueType) → slice_get (ps ++ at.locals) n ≡ Some t → locals n ≡ Some t
 
 -- from the one to the other
-pub record Walks (P : TypedProgram) (structs : ℕ → Type 0) (ps : List ValueType) (locals : LocalTypes) (f : Function) (T : Type 0) (old new : Place) (U : Type 0) : Type 0 where
+pub record Walks (P : TypedProgram) (structs : ℕ → Bool) (ps : List ValueType) (locals : LocalTypes) (f : Function) (T : Type 0) (old new : Place) (U : Type 0) : Type 0 where
   pub follows : Follows old.scopes new.scopes
   pub more : (xs : List ValueType) × (new.locals ≡ old.locals ++ xs)
   pub numbered : AreNumbered new.scopes
   pub typed : Ends P structs ps locals f new → IsPlaceTyped structs ps locals f old → T → IsPlaceTyped structs ps locals f new × U
 
-module _ (P : TypedProgram) (structs : ℕ → Type 0) (ps : List ValueType) (locals : LocalTypes) (f : Function) (known : RunAgrees P structs f.run) where
+module _ (P : TypedProgram) (structs : ℕ → Bool) (ps : List ValueType) (locals : LocalTypes) (f : Function) (known : RunAgrees P structs f.run) where
   abbrev Known : Place → Type 0
   Known at = Ends P structs ps locals f at
 

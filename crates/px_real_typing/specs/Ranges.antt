@@ -1,5 +1,5 @@
 -- Types of the profile that a run knows: two stars at most, before an int or before one of these structs.
-use Rattle.std.specs.Prelude.{ℕ, ◌≤◌, ⊤}
+use Rattle.std.specs.Prelude.{◌≡◌, ℕ, ◌≤◌, Bool, true, ⊤}
 use Rattle.px_real_types.specs.declared.shape.Base.{Base}
 use Rattle.px_real_types.specs.declared.shape.Base.TheVariants as B
 use Rattle.px_real_types.specs.declared.shape.Shape.{Shape}
@@ -8,10 +8,10 @@ use Rattle.px_real_types.specs.declared.shape.ProfileType.{ProfileType}
 use Rattle.px_real_types.specs.declared.known.Known.{Known}
 use Rattle.px_real_types.specs.declared.known.Known.TheVariants as K
 
-module _ (structs : ℕ → Type 0) where
+module _ (structs : ℕ → Bool) where
   abbrev pub IsBaseOf : Base → Type 0
   IsBaseOf B.Int = ⊤
-  IsBaseOf (B.Struct n) = structs n
+  IsBaseOf (B.Struct n) = structs n ≡ true
 
   abbrev pub IsTypeOf : ProfileType → Type 0
   IsTypeOf t = IsBaseOf t.base × (t.stars ≤ 2)

@@ -21,7 +21,7 @@ use Rattle.px_real_typing.specs.Ranges.{IsTypeOf, IsShapeOf, IsKnownOf}
 abbrev pub HasFirst : TypedProgram → TypeId → Type 0
 HasFirst P b = (t : ValueType) × (type_of_cell P.types b first_cell ≡ Some t)
 
-module _ (P : TypedProgram) (structs : ℕ → Type 0) (env : Environment) where
+module _ (P : TypedProgram) (structs : ℕ → Bool) (env : Environment) where
   -- a function takes the parameters that are kept, and gives what the profile has of its result
   abbrev pub IsSignature : Signature → Type 0
   IsSignature s = AgreesWith (P.procedures s.proc.0) (map (value_type env) (kept_types s.parameters)) (option_map (value_type env) s.result) × IfSome s.result (IsTypeOf structs)
@@ -40,7 +40,7 @@ module _ (P : TypedProgram) (structs : ℕ → Type 0) (env : Environment) where
   abbrev pub IsBlock : ProfileType → Type 0
   IsBlock t = IsTypeOf structs t × IsDefined (slice_get P.types (env.block_number t))
 
-module _ (P : TypedProgram) (locals : LocalTypes) (structs : ℕ → Type 0) (env : Environment) where
+module _ (P : TypedProgram) (locals : LocalTypes) (structs : ℕ → Bool) (env : Environment) where
   -- a local has the type that it is declared with
   abbrev pub IsMeaning : Meaning → Type 0
   IsMeaning (local n t) = IsTypeOf structs t × (locals n ≡ Some (value_type env t))
@@ -50,7 +50,7 @@ module _ (P : TypedProgram) (locals : LocalTypes) (structs : ℕ → Type 0) (en
 
 -- ---- what an expression's place sees agrees with a program
 
-pub record Agrees (P : TypedProgram) (locals : LocalTypes) (structs : ℕ → Type 0) (env : Environment) : Type 0 where
+pub record Agrees (P : TypedProgram) (locals : LocalTypes) (structs : ℕ → Bool) (env : Environment) : Type 0 where
   pub meanings : (name : List ℕ) → IsMeaning P locals structs env (env.meaning name)
   pub members : (n : ℕ) (name : List ℕ) → IfSome (env.member n name) (IsMember P structs env n)
   -- blocks of ints and of pointers have one cell of their type, and the cells of structs that are defined are known
@@ -60,7 +60,7 @@ pub record Agrees (P : TypedProgram) (locals : LocalTypes) (structs : ℕ → Ty
 
 -- ---- expressions
 
-module _ (P : TypedProgram) (locals : LocalTypes) (structs : ℕ → Type 0) (env : Environment) where
+module _ (P : TypedProgram) (locals : LocalTypes) (structs : ℕ → Bool) (env : Environment) where
   -- one whose value isn't read
   abbrev pub IsPassed : Expression → Type 0
   IsPassed e = ArePassed P locals (an_expression e no_expressions)
@@ -77,7 +77,7 @@ module _ (P : TypedProgram) (locals : LocalTypes) (structs : ℕ → Type 0) (en
   IsOperand (a_name callee k word site) = IsCallee P structs env callee × IsKnownOf structs k
   IsOperand (a_member k e block at word site) = IsKnownOf structs k × IsOf P locals (Pointer block) e × HasFirst P block
   IsOperand (outside k ps word site) = IsKnownOf structs k × ArePartsTyped ps
-  IsOperand (a_struct n e word site) = structs n × IsOf P locals (Pointer (type_id env (struct n))) e
+  IsOperand (a_struct n e word site) = (structs n ≡ true) × IsOf P locals (Pointer (type_id env (struct n))) e
   IsOperand (an_object k ps word site) = IsKnownOf structs k × ArePartsTyped ps
   IsOperand (stopped ps word site) = ArePartsTyped ps
 

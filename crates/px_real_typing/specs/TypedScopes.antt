@@ -20,7 +20,7 @@ use Rattle.px_real_typing.specs.TypedOperands.{HasFirst}
 -- ---- a run
 
 -- what a file sees of the run agrees with its program
-pub record RunAgrees (P : TypedProgram) (structs : ℕ → Type 0) (run : Run) : Type 0 where
+pub record RunAgrees (P : TypedProgram) (structs : ℕ → Bool) (run : Run) : Type 0 where
   -- blocks of ints and of pointers have one cell of their type
   pub blocks : (t : ProfileType) → IsTypeOf structs t → is_value t ≡ true → slice_get P.types (run.block_number t) ≡ Some (One (value_of run t))
   -- a definition takes and gives what its procedure does, if that is kept
@@ -45,7 +45,7 @@ module _ (P : TypedProgram) (run : Run) (n : ℕ) where
 
 -- ---- what is in scope
 
-module _ (structs : ℕ → Type 0) where
+module _ (structs : ℕ → Bool) where
   abbrev pub IsFunction : FunctionTree → Type 0
   IsFunction f = AllByRecursion (λ o. IfSome o (IsTypeOf structs)) f.parameters × IfSome f.result (IsTypeOf structs)
 
@@ -56,7 +56,7 @@ module _ (structs : ℕ → Type 0) where
   abbrev pub IsDefinition : DefinitionTree → Type 0
   IsDefinition d = AllByRecursion (λ (m : NamedTree). IsKnownMember m.member) d.members
 
-module _ (structs : ℕ → Type 0) (run : Run) (locals : LocalTypes) where
+module _ (structs : ℕ → Bool) (run : Run) (locals : LocalTypes) where
   abbrev pub IsMeant : MeaningTree → Type 0
   IsMeant (a_type k) = IsKnownOf structs k
   IsMeant (an_enumerator value) = ⊤
@@ -97,6 +97,16 @@ pub record AreNumbered (st : Scopes) : Type 0 where
   pub definitions : AllByRecursion (IsDefinedBelow (length st.records)) st.definitions
 
 -- what the file knows in the end is so of what is in scope here
-pub record Covers (P : TypedProgram) (structs : ℕ → Type 0) (run : Run) (st : Scopes) : Type 0 where
-  pub within : (n : ℕ) → n < length st.records → structs n
+pub record Covers (P : TypedProgram) (structs : ℕ → Bool) (run : Run) (st : Scopes) : Type 0 where
+  pub within : (n : ℕ) → n < length st.records → structs n ≡ true
   pub members : (n : ℕ) (ms : List NamedTree) → members_of st n ≡ Some ms → HasMembers P run n ms
+
+-- outside of functions there are no locals
+abbrev pub no_locals : LocalTypes
+no_locals n = None
+
+-- from what is in scope at the top of a file to what is in scope later
+pub record KeepsScopes (P : TypedProgram) (structs : ℕ → Bool) (run : Run) (old new : Scopes) : Type 0 where
+  pub numbered : AreNumbered new
+  pub covers : Covers P structs run new → Covers P structs run old
+  pub typed : Covers P structs run new → AreTyped structs run no_locals old → AreTyped structs run no_locals new

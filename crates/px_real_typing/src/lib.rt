@@ -4,4 +4,4 @@
 
 mod laws;
 
-pub use laws::expressions_keep_typing;
+pub use laws::{expressions_keep_typing, functions_keep_typing, scopes_keep_typing};
