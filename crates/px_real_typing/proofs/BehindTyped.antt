@@ -33,9 +33,9 @@ use Rattle.px_real_typing.proofs.EnteringTyped.{Within, Moves, came, stays, with
 -- what the first says holds, whatever is said
 first_any : {A B : Type 0} (R : B → Type 0) (says : A → Option B) → ((a : A) → IfSome (says a) R) → (xs : List A) → IfSome (first_said says xs) R
 first_any R says on [] = tt
-first_any R says on (x ∷ xs) = by (says x) (on x)
+first_any {B = B} R says on (x ∷ xs) = by (says x) (on x)
   where
-    by : (o : Option _) → IfSome o R → IfSome (or_else o (λ b. Some b) (first_said says xs)) R
+    by : (o : Option B) → IfSome o R → IfSome (or_else o (λ b. Some b) (first_said says xs)) R
     by (Some b) k = k
     by None k = first_any R says on xs
 
@@ -113,8 +113,7 @@ module _ (structs : ℕ → Bool) (run : Run) (locals : LocalTypes) where
 
   -- where it holds by then
   pub goes_with : (K : Type 0) (a b c : Scopes) → Goes structs run locals a b → (Within structs b → Typed b → K) → With K b c → Goes structs run locals a c
-  goes_with K a b c h k g =
-      let m = moves_on structs h (record { follows = g.follows; numbered = g.numbered; typed = λ w t. (g.typed w (t, k (within_before structs b c g.follows w) t)).0 }) in m
+  goes_with K a b c h k g = moves_on structs h (record { follows = g.follows; numbered = g.numbered; typed = λ w t. (g.typed w (t, k (within_before structs b c g.follows w) t)).0 })
 
   -- ---- a declaration
 

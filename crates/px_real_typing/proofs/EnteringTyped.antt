@@ -255,14 +255,14 @@ module _ (structs : ℕ → Bool) (run : Run) (locals : LocalTypes) where
   line_goes deeper g cells x (assertion a) y e h = subst (λ z. Moves structs x.0 z.0 (So x) (So z)) (same_Some x y e) (stays structs x.0 (So x) h)
   line_goes deeper g cells x (declaration ss xs) y e h =
       let c = came (in_turn deeper x.0 ss) (λ st. Some (st, with_members cells st ss x.1 xs)) y e in
-      let m = turns structs (λ st. st) (AreTyped structs run locals) deeper g ss x.0 c.0 c.1 h in
+      let m = turns structs (λ (z : Scopes). z) (AreTyped structs run locals) deeper g ss x.0 c.0 c.1 h in
       subst (λ z. Moves structs x.0 z.0 (So x) (So z)) (same_Some (c.0, with_members cells c.0 ss x.1 xs) y c.2)
       (record { follows = m.follows; numbered = m.numbered; typed = λ w t. (let u = m.typed w t.0 in (u, members_typed cells c.0 ss x.1 xs m.numbered w u t.1)) })
 
   definition_goes : (n : ℕ) (st : Scopes) (x : Scopes × List NamedTree) → IsOpen (n, st) → Moves structs st x.0 (So (st, [])) (So x) → Goes st (with_definition n x)
   definition_goes n st x o m = record {
     follows = record { block = m.follows.block; records = m.follows.records; members = λ k ms e. kept k ms e (nat_eq n k) refl };
-    numbered = record { bindings = m.numbered.bindings; definitions = (let a = o.1 in let b = m.follows.records in omega (arith, a, b), m.numbered.definitions) };
+    numbered = record { bindings = m.numbered.bindings; definitions = (let a : n < length st.records = o.1 in let b : length st.records ≤ length x.0.records = m.follows.records in omega (arith, a, b), m.numbered.definitions) };
     typed = λ w t. (let u = m.typed w (t, tt) in record { bindings = u.0.bindings; definitions = (u.1, u.0.definitions) });
   }
     where
@@ -304,4 +304,4 @@ module _ (structs : ℕ → Bool) (run : Run) (locals : LocalTypes) where
   deeper_goes (suc n) = specifier_goes (deeper_by n) (deeper_goes n) false
 
   pub specifiers_go : (alone : Bool) (ss : List SpecifierTree) (st st1 : Scopes) → with_specifiers alone ss st ≡ Some st1 → AreNumbered st → Goes st st1
-  specifiers_go alone ss st st1 e h = turns structs (λ st. st) (AreTyped structs run locals) (with_specifier (deeper_by struct_limit) alone) (specifier_goes (deeper_by struct_limit) (deeper_goes struct_limit) alone) ss st st1 e h
+  specifiers_go alone ss st st1 e h = turns structs (λ (z : Scopes). z) (AreTyped structs run locals) (with_specifier (deeper_by struct_limit) alone) (specifier_goes (deeper_by struct_limit) (deeper_goes struct_limit) alone) ss st st1 e h

@@ -3,7 +3,7 @@ use Rattle.std.proofs.Common.{arith, ◌≡◌, ◌∙◌, ◌<◌, ◌≤◌, �
 use Rattle.std.specs.Prelude.{IfSome, option_map, if◌then◌else◌, slice_get, codes, ⊤}
 use Rattle.std.specs.List.{AllByRecursion}
 use Rattle.std.proofs.lemmas.List.{append-nil, length-map}
-use Rattle.std.proofs.lemmas.Option.{same_Some}
+use Rattle.std.proofs.lemmas.Option.{same_Some, none-some}
 use Rattle.px_syntax.specs.TypedTree as T
 use Rattle.px_syntax.specs.TypedTree.{Statement}
 use Rattle.px_expressions.specs.Reading.{or_else}
@@ -42,7 +42,7 @@ module _ (structs : ℕ → Bool) (run : Run) (locals : LocalTypes) where
   any_meant (an_enumerator value) h = h
   any_meant (an_object k word) h = h
   any_meant (a_function f word) h = h
-  any_meant (a_local n t) h = absurd (let e = h.1 in cc)
+  any_meant (a_local n t) h = absurd (none-some (value_of run t) h.1)
 
   any_bindings : (bs : List BindingTree) → AllByRecursion (IsBinding structs run no_locals) bs → AllByRecursion (IsBinding structs run locals) bs
   any_bindings [] h = tt

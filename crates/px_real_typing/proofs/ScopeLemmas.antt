@@ -28,9 +28,9 @@ use Rattle.px_real_typing.proofs.ShapesTyped.{AreIn, specified_in, seen_in, shap
 
 pub first_holds : {A B : Type 0} (Q : A → Type 0) (R : B → Type 0) (says : A → Option B) → ((a : A) → Q a → IfSome (says a) R) → (xs : List A) → AllByRecursion Q xs → IfSome (first_said says xs) R
 first_holds Q R says on [] h = tt
-first_holds Q R says on (x ∷ xs) h = by (says x) (on x h.0)
+first_holds {B = B} Q R says on (x ∷ xs) h = by (says x) (on x h.0)
   where
-    by : (o : Option _) → IfSome o R → IfSome (or_else o (λ b. Some b) (first_said says xs)) R
+    by : (o : Option B) → IfSome o R → IfSome (or_else o (λ b. Some b) (first_said says xs)) R
     by (Some b) k = k
     by None k = first_holds Q R says on xs h.1
 

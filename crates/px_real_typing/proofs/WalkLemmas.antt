@@ -3,6 +3,7 @@ use Rattle.std.proofs.Common.{arith, ◌≡◌, ◌∙◌, ◌<◌, ◌≤◌, �
 use Rattle.std.specs.Prelude.{slice_get, ⊤}
 use Rattle.std.specs.List.{AllByRecursion}
 use Rattle.std.proofs.lemmas.List.{append-nil, length-append}
+use Rattle.std.proofs.lemmas.Option.{none-some}
 use Rattle.px_meaning.specs.Values.{ValueType}
 use Rattle.px_meaning.specs.TypedProgram.{TypedProgram}
 use Rattle.px_meaning.specs.TreeTypes.{LocalTypes}
@@ -24,7 +25,7 @@ use Rattle.px_real_typing.proofs.EnvironmentTyped.{value_is, environment_agrees}
 -- ---- lists
 
 pub got_before : {A : Type 0} (xs ys : List A) (n : ℕ) (a : A) → slice_get xs n ≡ Some a → slice_get (xs ++ ys) n ≡ Some a
-got_before [] ys n a h = absurd cc
+got_before [] ys n a h = absurd (none-some a h)
 got_before (x ∷ xs) ys zero a h = h
 got_before (x ∷ xs) ys (suc n) a h = got_before xs ys n a h
 
