@@ -1,11 +1,11 @@
 -- What is in scope behind a declaration, a function's head and a parameter is of the structs that there are.
-use Rattle.std.proofs.Common.{arith, ◌≡◌, ◌∙◌, ◌<◌, ◌≤◌, ℕ, Bool, true, false, List, [], ◌∷◌, map, length, Option, Some, None, refl, sym, ap, subst}
+use Rattle.std.proofs.Common.{arith, ◌≡◌, ◌∙◌, ◌<◌, ◌≤◌, ℕ, Bool, true, false, List, [], ◌∷◌, Option, Some, None, refl}
 use Rattle.std.specs.Prelude.{IfSome, if◌then◌else◌, ⊤}
 use Rattle.std.specs.List.{AllByRecursion}
 use Rattle.std.specs.Str.{bytes_eq}
 use Rattle.px_expressions.specs.Reading.{or_else}
 use Rattle.px_meaning.specs.TreeTypes.{LocalTypes}
-use Rattle.px_real_declarations.specs.DeclarationTree.{SpecifierTree, DeclaredTree, DeclarationTree, declaration, assertion, ParametersTree, parameters, identifiers, HeadTree}
+use Rattle.px_real_declarations.specs.DeclarationTree.{DeclaredTree, DeclarationTree, declaration, assertion, ParametersTree, parameters, identifiers, HeadTree}
 use Rattle.px_real_declarations.specs.Names.{declared_name, is_typedef}
 use Rattle.px_real_types.specs.declared.shape.Shape.{Shape}
 use Rattle.px_real_types.specs.declared.shape.ProfileType.{ProfileType}
@@ -13,29 +13,28 @@ use Rattle.px_real_types.specs.declared.known.Known.{Known}
 use Rattle.px_real_types.specs.Shapes.{as_parameter, in_profile}
 use Rattle.px_real_types.specs.Specifiers.{specified}
 use Rattle.px_real_types.specs.Declarators.{SignatureTree, declared_shape, function_in}
-use Rattle.px_real_types.specs.Cells.{parameter_of}
-use Rattle.px_real_types.specs.Types.{int, unknown}
-use Rattle.px_real_scopes.specs.Scopes.{FunctionTree, MeaningTree, a_type, an_object, a_function, of_name, Scopes}
+use Rattle.px_real_types.specs.Types.{unknown}
+use Rattle.px_real_scopes.specs.Scopes.{MeaningTree, an_object, a_function, Scopes}
 use Rattle.px_real_scopes.specs.Lookups.{first_said, seen, meanings}
 use Rattle.px_real_scopes.specs.Knowing.{type_word, specified_known, declared_known, parameter_known}
-use Rattle.px_real_scopes.specs.Functions.{is_none, all_types, parameter_types, parameters_in, declared_by, declared_function, says_named, says_parameter, says_among, says_parameters, an_int, old_parameter, old_parameters, defined_by, defined_function}
+use Rattle.px_real_scopes.specs.Functions.{is_none, all_types, parameter_types, parameters_in, declared_by, declared_function, says_named, says_parameter, says_parameters, an_int, old_parameter, old_parameters, defined_by, defined_function}
 use Rattle.px_real_scopes.specs.Entering.{with_specifiers}
 use Rattle.px_real_scopes.specs.Behind.{with_name, declared_meaning, with_one, with_declared, declares_none, behind, head_meaning, with_head, behind_head, with_parameter, with_parameters, behind_parameters}
 use Rattle.px_real_bodies.specs.Environments.{Run}
 use Rattle.px_real_typing.specs.Ranges.{IsTypeOf, IsShapeOf, IsKnownOf}
 use Rattle.px_real_typing.specs.TypedScopes.{IsFunction, IsMeant, AreTyped, AreNumbered}
-use Rattle.px_real_typing.proofs.Choices.{of_test, of_some}
+use Rattle.px_real_typing.proofs.Choices.{of_test}
 use Rattle.px_real_typing.proofs.OperatorsTyped.{profiled}
 use Rattle.px_real_typing.proofs.ShapesTyped.{AreIn, specified_in, declared_in, parameter_in, gives_in, seen_in, declared_known_in, parameter_known_in, parameter_type}
 use Rattle.px_real_typing.proofs.ScopeLemmas.{meanings_in, specified_typed, if_said}
 use Rattle.px_real_typing.proofs.EnteringTyped.{Within, Moves, came, stays, within_before, moves_on, Goes, goes_is, specifiers_go}
 
 -- what the first says holds, whatever is said
-first_any : {A B : Type 0} (R : B → Type 0) (says : A → Option B) → ((a : A) → IfSome (says a) R) → (xs : List A) → IfSome (first_said says xs) R
+first_any : {A C : Type 0} (R : C → Type 0) (says : A → Option C) → ((a : A) → IfSome (says a) R) → (xs : List A) → IfSome (first_said says xs) R
 first_any R says on [] = tt
-first_any {B = B} R says on (x ∷ xs) = by (says x) (on x)
+first_any {C = C} R says on (x ∷ xs) = by (says x) (on x)
   where
-    by : (o : Option B) → IfSome o R → IfSome (or_else o (λ b. Some b) (first_said says xs)) R
+    by : (o : Option C) → IfSome o R → IfSome (or_else o (λ b. Some b) (first_said says xs)) R
     by (Some b) k = k
     by None k = first_any R says on xs
 

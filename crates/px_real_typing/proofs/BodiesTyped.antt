@@ -1,5 +1,5 @@
 -- What the statements of a body are keeps the rules.
-use Rattle.std.proofs.Common.{arith, ◌≡◌, ◌∙◌, ℕ, ◌+◌, Bool, true, false, ◌&&◌, ◌||◌, not, List, [], ◌∷◌, ◌++◌, map, Option, Some, None, refl, sym, ap, subst}
+use Rattle.std.proofs.Common.{arith, ◌≡◌, ◌∙◌, ℕ, ◌+◌, Bool, true, false, ◌&&◌, ◌||◌, not, List, [], ◌∷◌, ◌++◌, Option, Some, None, refl, sym, ap, subst}
 use Rattle.std.specs.Prelude.{IfSome, option_map, if◌then◌else◌, codes, ⊤}
 use Rattle.std.specs.List.{AllByRecursion}
 use Rattle.std.proofs.lemmas.Option.{same_Some}
@@ -10,7 +10,7 @@ use Rattle.px_syntax.specs.TypedTree as T
 use Rattle.px_syntax.specs.TypedTree.{Expression, Statement}
 use Rattle.px_expressions.specs.Reading.{or_else}
 use Rattle.px_meaning.specs.TypedProgram.{TypedProgram}
-use Rattle.px_meaning.specs.TreeTypes.{LocalTypes, IsDeclared, IsConditionIf, IsStep, AreSteps, IsStatement, AreStatements}
+use Rattle.px_meaning.specs.TreeTypes.{LocalTypes, IsDeclared, IsConditionIf, IsStatement, AreStatements}
 use Rattle.px_real_expressions.specs.Lexemes.{Lexeme}
 use Rattle.px_real_expressions.specs.ExpressionTree.{ExpressionTree}
 use Rattle.px_real_statements.specs.StatementTree.{StatementTree, StatementTrees, empty, simple, block, choose, choose_else, switch, while_loop, do_loop, for_loop, goto, break, continue, return, labelled, unread, no_statements, a_statement}
@@ -21,7 +21,6 @@ use Rattle.px_real_types.specs.declared.shape.ProfileType.{ProfileType}
 use Rattle.px_real_types.specs.declared.known.Known.{Known}
 use Rattle.px_real_types.specs.Declarators.{SignatureTree, function_in}
 use Rattle.px_real_types.specs.Shapes.{in_profile}
-use Rattle.px_real_values.specs.Environment.{value_type}
 use Rattle.px_real_values.specs.Calls.{Given}
 use Rattle.px_real_scopes.specs.Scopes.{MeaningTree, a_type, an_enumerator, an_object, a_function, a_local, Scopes}
 use Rattle.px_real_scopes.specs.Lookups.{seen}
@@ -33,9 +32,9 @@ use Rattle.px_real_effects.specs.Effects.{evaluated, argument_of, initialised, p
 use Rattle.px_real_bodies.specs.Environments.{environment}
 use Rattle.px_real_bodies.specs.Places.{Function, Place, in_scopes, within, outside_of_it, with_one_local, Walk, without_statements}
 use Rattle.px_real_bodies.specs.Phrases.{expression_in, declaration_in, first_place, no_place}
-use Rattle.px_real_bodies.specs.Values.{unread_at, parts_of, decided, decided_if, initialiser_parts}
+use Rattle.px_real_bodies.specs.Values.{unread_at, parts_of, decided_if}
 use Rattle.px_real_bodies.specs.Declarations.{is_stored, is_automatic, unbraced, stops_at, local_type, begun, parts_if, with_local_of, with_other, with_named, with_stop, with_declarator, with_declarators, declared}
-use Rattle.px_real_bodies.specs.Statements.{breaks, continues, label_stop, one, block_of, no_statement, ended, is_never, stopping, unread_there, acted, phrased, acted_if, phrased_if, given_back, done, all_done}
+use Rattle.px_real_bodies.specs.Statements.{breaks, continues, label_stop, one, block_of, is_never, stopping, unread_there, acted, phrased, acted_if, phrased_if, given_back, done, all_done}
 use Rattle.px_real_functions.specs.Definitions.{value_of}
 use Rattle.px_real_typing.specs.Ranges.{IsTypeOf, IsKnownOf}
 use Rattle.px_real_typing.specs.TypedOperands.{Agrees, IsGiven, ArePartsTyped}
@@ -46,11 +45,11 @@ use Rattle.px_real_typing.proofs.OperatorsTyped.{profiled}
 use Rattle.px_real_typing.proofs.EffectsTyped.{all_statements, IsAct, statements_of_acts, steps_of_acts, evaluated_typed, initialised_typed, argument_typed, performed_typed, returned_typed}
 use Rattle.px_real_typing.proofs.ShapesTyped.{seen_in, declared_known_in}
 use Rattle.px_real_typing.proofs.ScopeLemmas.{specified_typed}
-use Rattle.px_real_typing.proofs.EnteringTyped.{Follows, Within, Moves, came, within_before, specifiers_go}
+use Rattle.px_real_typing.proofs.EnteringTyped.{Within, came, specifiers_go}
 use Rattle.px_real_typing.proofs.BehindTyped.{name_with, meaning_typed}
 use Rattle.px_real_typing.proofs.EnvironmentTyped.{value_is, value_if}
 use Rattle.px_real_typing.proofs.WalkLemmas.{From, stands, walks_on, walks_as, walks_also, walks_then, walks_given, scopes_walk, enters, scoped, local_walks}
-use Rattle.px_real_typing.proofs.HeldTyped.{unread_typed, held_parts, decided_typed, decided_if_typed, initialiser_typed}
+use Rattle.px_real_typing.proofs.HeldTyped.{held_parts, decided_typed, decided_if_typed, initialiser_typed}
 
 module _ (P : TypedProgram) (structs : ℕ → Bool) (ps : List ValueType) (locals : LocalTypes) (f : Function) (known : RunAgrees P structs f.run) where
   abbrev result : Option ValueType
@@ -60,26 +59,26 @@ module _ (P : TypedProgram) (structs : ℕ → Bool) (ps : List ValueType) (loca
   Statements loop ss = AllByRecursion (IsStatement P locals (option_map (value_of f.run) f.returns) loop) ss
 
   abbrev To : Type 0 → Place → Place → Type 0 → Type 0
-  To T a b U = From P structs ps locals f known T a b U
+  To X a b U = From P structs ps locals f known X a b U
 
   -- a walk whose statements keep the rules
   abbrev Goes : Type 0 → Bool → Place → Walk → Type 0
-  Goes T loop at w = To T at w.after (Statements loop w.trees)
+  Goes X loop at w = To X at w.after (Statements loop w.trees)
 
   abbrev Seen : Place → Type 0
   Seen at = Agrees P locals structs (environment f.run at.scopes)
 
   -- the place stays
-  here : (T : Type 0) (loop : Bool) (at : Place) (ss : List Statement) → AreNumbered at.scopes → (Seen at → T → Statements loop ss) → Goes T loop at (record { trees = ss; after = at })
-  here T loop at ss n on = stands P structs ps locals f known T at (Statements loop ss) n on
+  here : (X : Type 0) (loop : Bool) (at : Place) (ss : List Statement) → AreNumbered at.scopes → (Seen at → X → Statements loop ss) → Goes X loop at (record { trees = ss; after = at })
+  here X loop at ss n on = stands P structs ps locals f known X at (Statements loop ss) n on
 
-  stop_there : (T : Type 0) (loop : Bool) (word : List ℕ) (site : Site) (es : List Expression) (at : Place) → AreNumbered at.scopes → (Seen at → ArePartsTyped P locals structs (environment f.run at.scopes) es)
-      → Goes T loop at (stopping f word site es at)
-  stop_there T loop word site es at n on =
-      here T loop at ((stopping f word site es at).trees) n (λ ok t. (((V.Int, all_passed P locals structs (environment f.run at.scopes) es (on ok)), tt), tt))
+  stop_there : (X : Type 0) (loop : Bool) (word : List ℕ) (site : Site) (es : List Expression) (at : Place) → AreNumbered at.scopes → (Seen at → ArePartsTyped P locals structs (environment f.run at.scopes) es)
+      → Goes X loop at (stopping f word site es at)
+  stop_there X loop word site es at n on =
+      here X loop at ((stopping f word site es at).trees) n (λ ok t. (((V.Int, all_passed P locals structs (environment f.run at.scopes) es (on ok)), tt), tt))
 
-  unread_goes : (T : Type 0) (loop : Bool) (site : Site) (ts : List Lexeme) (at : Place) → AreNumbered at.scopes → Goes T loop at (unread_there f site ts at)
-  unread_goes T loop site ts at n = here T loop at ((unread_there f site ts at).trees) n (λ ok t. (((V.Int, tt), tt), tt))
+  unread_goes : (X : Type 0) (loop : Bool) (site : Site) (ts : List Lexeme) (at : Place) → AreNumbered at.scopes → Goes X loop at (unread_there f site ts at)
+  unread_goes X loop site ts at n = here X loop at ((unread_there f site ts at).trees) n (λ ok t. (((V.Int, tt), tt), tt))
 
   -- ---- expressions
 
@@ -257,7 +256,7 @@ module _ (P : TypedProgram) (structs : ℕ → Bool) (ps : List ValueType) (loca
   continue_goes true site at n = here ⊤ true at (T.continue ∷ []) n (λ ok t. (refl, tt))
   continue_goes false site at n = stop_there ⊤ false (codes "continue") site [] at n (λ ok. tt)
 
-  abbrev whole : (loop : Bool) (ss : List Statement) → Statements loop ss → AreStatements P locals (option_map (value_of f.run) f.returns) loop (T.statements_of ss)
+  whole : (loop : Bool) (ss : List Statement) → Statements loop ss → AreStatements P locals (option_map (value_of f.run) f.returns) loop (T.statements_of ss)
   whole loop ss h = all_statements P locals (option_map (value_of f.run) f.returns) loop ss h
 
   -- a block of its own

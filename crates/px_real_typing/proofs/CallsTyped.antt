@@ -1,6 +1,6 @@
 -- What calls are keeps the rules, where their arguments and what is called do.
-use Rattle.std.proofs.Common.{◌≡◌, ℕ, Bool, true, false, List, [], ◌∷◌, ◌++◌, map, flat_map, Option, Some, None, refl, sym, true≢false}
-use Rattle.std.specs.Prelude.{IfSome, option_map, if◌then◌else◌, codes, ⊤}
+use Rattle.std.proofs.Common.{◌≡◌, ℕ, Bool, true, false, List, [], ◌∷◌, ◌++◌, map, Option, Some, None, refl, sym, true≢false}
+use Rattle.std.specs.Prelude.{IfSome, option_map, if◌then◌else◌, codes}
 use Rattle.std.specs.List.{AllByRecursion}
 use Rattle.px_base.specs.declared.trace.Site.{Site}
 use Rattle.px_terms.specs.declared.types.ValueType.{ValueType}
@@ -10,13 +10,12 @@ use Rattle.px_syntax.specs.TypedTree.{Expression, Arguments, arguments_of}
 use Rattle.px_meaning.specs.TypedProgram.{TypedProgram}
 use Rattle.px_meaning.specs.TreeTypes.{LocalTypes, AgreesWith, AreOf}
 use Rattle.px_real_types.specs.declared.shape.ProfileType.{ProfileType}
-use Rattle.px_real_types.specs.Types.{int}
 use Rattle.px_real_values.specs.declared.environment.Library.{Library}
 use Rattle.px_real_values.specs.declared.environment.Library.TheVariants as L
 use Rattle.px_real_values.specs.Environment.{Environment, Signature, Callee, function, library, no_function, value_type}
 use Rattle.px_real_values.specs.Operands.{Operand, of_type, a_zero, a_null, a_test, a_block, a_name, a_member, outside, a_struct, an_object, stopped, parts}
-use Rattle.px_real_values.specs.Operators.{outside_of, stopped_at}
-use Rattle.px_real_values.specs.Calls.{Given, fits, all_parts, argument, arguments, gives, function_call, malloc_call, input_call, expect_call, library_call, name_call, call_of}
+use Rattle.px_real_values.specs.Operators.{stopped_at}
+use Rattle.px_real_values.specs.Calls.{Given, fits, all_parts, arguments, gives, function_call, malloc_call, input_call, expect_call, library_call, name_call, call_of}
 use Rattle.px_real_functions.specs.Definitions.{kept_types}
 use Rattle.px_real_typing.specs.Ranges.{IsTypeOf}
 use Rattle.px_real_typing.specs.TypedOperands.{IsSignature, IsCallee, IsBlock, IsPassed, ArePartsTyped, IsOperand, IsGiven}

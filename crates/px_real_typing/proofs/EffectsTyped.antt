@@ -1,9 +1,8 @@
 -- What expressions do as statements keeps the rules, where what their places see agrees with the program.
 use Rattle.std.proofs.Common.{arith, ◌≡◌, ℕ, pos, Bool, true, false, List, [], ◌∷◌, ◌++◌, map, Option, Some, None, refl, sym, subst}
-use Rattle.std.specs.Prelude.{IfSome, option_map, if◌then◌else◌, codes, ⊤}
+use Rattle.std.specs.Prelude.{IfSome, option_map, if◌then◌else◌, codes}
 use Rattle.std.specs.List.{AllByRecursion}
 use Rattle.px_base.specs.declared.trace.Site.{Site}
-use Rattle.px_terms.specs.declared.types.TypeId.{TypeId}
 use Rattle.px_terms.specs.declared.types.ValueType.{ValueType}
 use Rattle.px_terms.specs.declared.types.ValueType.TheVariants as V
 use Rattle.px_syntax.specs.declared.typed_expression.Arithmetic.{Arithmetic}
@@ -11,23 +10,23 @@ use Rattle.px_syntax.specs.TypedTree as T
 use Rattle.px_syntax.specs.TypedTree.{Expression, Place, Statement, statements_of}
 use Rattle.px_expressions.specs.Reading.{or_else}
 use Rattle.px_meaning.specs.TypedProgram.{TypedProgram}
-use Rattle.px_meaning.specs.TreeTypes.{LocalTypes, IsOf, IsPlaceOf, IsDeclared, IsReturned, IsStep, AreSteps, IsStatement, AreStatements}
-use Rattle.px_real_expressions.specs.declared.operators.Prefix.TheVariants as P
+use Rattle.px_meaning.specs.TreeTypes.{LocalTypes, IsOf, IsPlaceOf, IsDeclared, IsStep, AreSteps, IsStatement, AreStatements}
+use Rattle.px_real_expressions.specs.declared.operators.Prefix.TheVariants as Before
 use Rattle.px_real_expressions.specs.declared.operators.Operator.{Operator}
 use Rattle.px_real_expressions.specs.declared.operators.Step.{Step}
 use Rattle.px_real_expressions.specs.declared.operators.Step.TheVariants as S
 use Rattle.px_real_expressions.specs.ExpressionTree.{ExpressionTree, name, constant, string, parenthesised, statement, literal, form, index, call, member, pointer_member, step, prefixed, label, measure, measure_type, cast, binary, choice, choice_or, assign}
 use Rattle.px_real_types.specs.declared.shape.ProfileType.{ProfileType}
-use Rattle.px_real_types.specs.Types.{int, is_int}
+use Rattle.px_real_types.specs.Types.{int, struct, is_int}
 use Rattle.px_real_values.specs.Environment.{Environment, type_id, value_type}
-use Rattle.px_real_values.specs.Operands.{Operand, of_type, a_zero, a_null, a_test, a_block, a_name, a_member, outside, a_struct, an_object, stopped, stop, parts, needed, freed}
+use Rattle.px_real_values.specs.Operands.{Operand, of_type, a_zero, a_null, a_test, a_block, a_name, a_member, outside, a_struct, an_object, stopped, stop, parts, needed}
 use Rattle.px_real_values.specs.Operators.{assignment_text, step_text}
 use Rattle.px_real_values.specs.Calls.{Given, all_parts}
 use Rattle.px_real_values.specs.Values.{valued, given}
 use Rattle.px_real_effects.specs.Targets.{Target, a_place, an_access, away, nowhere, place_of, pointer_of, target}
-use Rattle.px_real_effects.specs.Effects.{evaluated, arithmetic_of, counting, accessed, written, updating, free_at, ran, updated, assigned, assigned_with, stepped, freeing, called_by, argument_of, assigned_by, performed, initialised, returned}
+use Rattle.px_real_effects.specs.Effects.{evaluated, arithmetic_of, counting, written, free_at, ran, updated, assigned, assigned_with, stepped, freeing, called_by, argument_of, assigned_by, performed, initialised, returned}
 use Rattle.px_real_typing.specs.TypedOperands.{HasFirst, Agrees, IsPassed, ArePartsTyped, IsOperand, IsGiven}
-use Rattle.px_real_typing.proofs.Choices.{of_option, all_both}
+use Rattle.px_real_typing.proofs.Choices.{all_both}
 use Rattle.px_real_typing.proofs.OperandsTyped.{int_value, fits, passed, all_passed, stop_is, parts_typed, needed_typed, freed_typed}
 use Rattle.px_real_typing.proofs.CallsTyped.{parts_of_all}
 use Rattle.px_real_typing.proofs.ExpressionsTyped.{valued_typed, given_typed}
@@ -106,7 +105,7 @@ module _ (P : TypedProgram) (locals : LocalTypes) (structs : ℕ → Bool) (env 
   target_typed text site (a_name callee k word at) h = tt
   target_typed text site (a_member k e block access word at) h = (h.1, h.2)
   target_typed text site (outside k ps word at) h = h.1
-  target_typed text site (a_struct n e word at) h = nowhere_typed (e ∷ []) word at (passed P locals structs env e _ h.1, tt)
+  target_typed text site (a_struct n e word at) h = nowhere_typed (e ∷ []) word at (passed P locals structs env e (V.Pointer (type_id env (struct n))) h.1, tt)
   target_typed text site (an_object k ps word at) h = nowhere_typed ps word at h.1
   target_typed text site (stopped ps word at) h = nowhere_typed ps word at h
   target_typed text site (a_zero at) h = nowhere_typed [] (env.word_number text) site tt
@@ -206,17 +205,17 @@ module _ (P : TypedProgram) (locals : LocalTypes) (structs : ℕ → Bool) (env 
 
     pub performed_typed : (e : ExpressionTree) → Acts (performed env e)
     performed_typed (parenthesised site e) = performed_typed e
-    performed_typed (prefixed P.Extension site e) = performed_typed e
-    performed_typed (prefixed P.Increment site e) = stepped_typed S.Increment site (valued env e) (valued_typed P locals structs env ok e)
-    performed_typed (prefixed P.Decrement site e) = stepped_typed S.Decrement site (valued env e) (valued_typed P locals structs env ok e)
-    performed_typed (prefixed P.Address site e) = else_typed (prefixed P.Address site e)
-    performed_typed (prefixed P.Indirection site e) = else_typed (prefixed P.Indirection site e)
-    performed_typed (prefixed P.Plus site e) = else_typed (prefixed P.Plus site e)
-    performed_typed (prefixed P.Minus site e) = else_typed (prefixed P.Minus site e)
-    performed_typed (prefixed P.Complement site e) = else_typed (prefixed P.Complement site e)
-    performed_typed (prefixed P.Not site e) = else_typed (prefixed P.Not site e)
-    performed_typed (prefixed P.Real site e) = else_typed (prefixed P.Real site e)
-    performed_typed (prefixed P.Imaginary site e) = else_typed (prefixed P.Imaginary site e)
+    performed_typed (prefixed Before.Extension site e) = performed_typed e
+    performed_typed (prefixed Before.Increment site e) = stepped_typed S.Increment site (valued env e) (valued_typed P locals structs env ok e)
+    performed_typed (prefixed Before.Decrement site e) = stepped_typed S.Decrement site (valued env e) (valued_typed P locals structs env ok e)
+    performed_typed (prefixed Before.Address site e) = else_typed (prefixed Before.Address site e)
+    performed_typed (prefixed Before.Indirection site e) = else_typed (prefixed Before.Indirection site e)
+    performed_typed (prefixed Before.Plus site e) = else_typed (prefixed Before.Plus site e)
+    performed_typed (prefixed Before.Minus site e) = else_typed (prefixed Before.Minus site e)
+    performed_typed (prefixed Before.Complement site e) = else_typed (prefixed Before.Complement site e)
+    performed_typed (prefixed Before.Not site e) = else_typed (prefixed Before.Not site e)
+    performed_typed (prefixed Before.Real site e) = else_typed (prefixed Before.Real site e)
+    performed_typed (prefixed Before.Imaginary site e) = else_typed (prefixed Before.Imaginary site e)
     performed_typed (step s site e) = stepped_typed s site (valued env e) (valued_typed P locals structs env ok e)
     performed_typed (assign o site a b) = assigned_by_typed o site (valued env a) (argument_of env b) (valued_typed P locals structs env ok a) (argument_typed b)
     performed_typed (call site f es) =

@@ -1,6 +1,6 @@
 -- What specifiers bring into scope is of the structs that there are.
-use Rattle.std.proofs.Common.{arith, ◌≡◌, ◌∙◌, ◌<◌, ◌≤◌, ◌+◌, ℕ, zero, suc, Bool, true, false, ◌&&◌, not, List, [], ◌∷◌, ◌++◌, map, length, nat_eq, Option, Some, None, is_some, refl, sym, ap, subst, true≢false}
-use Rattle.std.specs.Prelude.{IfSome, if◌then◌else◌, ⊤}
+use Rattle.std.proofs.Common.{arith, ◌≡◌, ◌∙◌, ◌<◌, ◌≤◌, ◌+◌, ℕ, zero, suc, Bool, true, false, ◌&&◌, not, List, [], ◌∷◌, ◌++◌, map, length, nat_eq, Option, Some, None, is_some, refl, sym, ap, subst}
+use Rattle.std.specs.Prelude.{IfSome, if◌then◌else◌}
 use Rattle.std.specs.List.{AllByRecursion}
 use Rattle.std.proofs.lemmas.Bool.{eqb-true}
 use Rattle.std.proofs.lemmas.List.{length-append}
@@ -23,10 +23,10 @@ use Rattle.px_real_types.specs.declared.known.Known.{Known}
 use Rattle.px_real_types.specs.declared.known.Member.{Member}
 use Rattle.px_real_types.specs.declared.known.Member.TheVariants as N
 use Rattle.px_real_names.specs.Enumerated.{as_whole, struct_limit}
-use Rattle.px_real_scopes.specs.Scopes.{MeaningTree, TagTree, a_record, an_enumeration, BindingTree, begins_block, of_name, of_tag, of_place, NamedTree, Scopes}
-use Rattle.px_real_scopes.specs.Lookups.{first_said, tag_of, number_in, placed, own_block, behind_block, is_seen, says_members, members_of, is_defined, seen, are_types}
+use Rattle.px_real_scopes.specs.Scopes.{MeaningTree, an_enumeration, BindingTree, NamedTree, Scopes}
+use Rattle.px_real_scopes.specs.Lookups.{first_said, tag_of, number_in, own_block, behind_block, is_seen, says_members, members_of, seen, are_types}
 use Rattle.px_real_scopes.specs.Knowing.{type_specifier, specified_known, declared_known}
-use Rattle.px_real_scopes.specs.Entering.{in_turn, counted_on, enumerator_value, enumerator_binding, with_enumerators, with_tag, with_enumerated, with_enumeration, if_open, declared_number, record_binding, new_record, meant_record, cells_among, member_made, with_member, with_each, no_cell, inherited, nameless_number, members_without_a_name, nameless_members, with_members, Entering, with_line, with_definition, defined_by, defined_if, with_tagged, with_specifier, deeper_by, with_specifiers}
+use Rattle.px_real_scopes.specs.Entering.{in_turn, counted_on, enumerator_value, enumerator_binding, with_enumerators, with_tag, with_enumerated, with_enumeration, if_open, declared_number, new_record, meant_record, cells_among, member_made, with_member, with_each, no_cell, inherited, nameless_number, members_without_a_name, nameless_members, with_members, Entering, with_line, with_definition, defined_by, defined_if, with_tagged, with_specifier, deeper_by, with_specifiers}
 use Rattle.px_real_scopes.specs.Behind.{with_name}
 use Rattle.px_real_bodies.specs.Environments.{Run}
 use Rattle.px_real_typing.specs.Ranges.{IsTypeOf, IsKnownOf}
@@ -140,7 +140,7 @@ module _ (structs : ℕ → Bool) (run : Run) (locals : LocalTypes) where
       let more : length st.records ≤ length (st.records ++ is_struct ∷ []) = omega (arith, l) in
       record {
         follows = record { block = refl; records = more; members = λ n ms e. e };
-        numbered = record { bindings = (omega (arith, l), all_below _ _ more st.bindings h.bindings); definitions = definitions_below _ _ more st.definitions h.definitions };
+        numbered = record { bindings = (omega (arith, l), all_below (length st.records) (length (st.records ++ is_struct ∷ [])) more st.bindings h.bindings); definitions = definitions_below (length st.records) (length (st.records ++ is_struct ∷ [])) more st.definitions h.definitions };
         typed = λ w t. record { bindings = (tt, t.bindings); definitions = t.definitions };
       }
   record_goes is_struct None site st h =
@@ -148,7 +148,7 @@ module _ (structs : ℕ → Bool) (run : Run) (locals : LocalTypes) where
       let more : length st.records ≤ length (st.records ++ is_struct ∷ []) = omega (arith, l) in
       record {
         follows = record { block = refl; records = more; members = λ n ms e. e };
-        numbered = record { bindings = (omega (arith, l), all_below _ _ more st.bindings h.bindings); definitions = definitions_below _ _ more st.definitions h.definitions };
+        numbered = record { bindings = (omega (arith, l), all_below (length st.records) (length (st.records ++ is_struct ∷ [])) more st.bindings h.bindings); definitions = definitions_below (length st.records) (length (st.records ++ is_struct ∷ [])) more st.definitions h.definitions };
         typed = λ w t. record { bindings = (tt, t.bindings); definitions = t.definitions };
       }
 

@@ -1,27 +1,25 @@
 -- What expressions see agrees with the program, where what is in scope is of the structs that there are and the run agrees with it.
-use Rattle.std.proofs.Common.{◌≡◌, ◌∙◌, ◌<◌, ◌≤◌, ℕ, Bool, true, false, List, [], ◌∷◌, map, length, Option, Some, None, is_some, refl, sym, ap, ap₂, subst, true≢false}
-use Rattle.std.specs.Prelude.{IfSome, option_map, if◌then◌else◌, slice_get, ⊤}
+use Rattle.std.proofs.Common.{◌≡◌, ◌∙◌, ◌<◌, ◌≤◌, ℕ, Bool, true, false, List, [], ◌∷◌, map, Option, Some, None, is_some, refl, sym, ap, ap₂, subst, true≢false}
+use Rattle.std.specs.Prelude.{IfSome, option_map, if◌then◌else◌, slice_get}
 use Rattle.std.specs.List.{AllByRecursion}
 use Rattle.std.specs.Str.{bytes_eq}
 use Rattle.px_expressions.specs.Reading.{or_else}
-use Rattle.px_meaning.specs.Values.{ValueType, One}
+use Rattle.px_meaning.specs.Values.{One}
 use Rattle.px_meaning.specs.TypedProgram.{TypedProgram}
 use Rattle.px_meaning.specs.TreeTypes.{LocalTypes, IsDefined, AgreesWith}
-use Rattle.px_real_expressions.specs.Lexemes.{Lexeme}
 use Rattle.px_real_types.specs.declared.shape.ProfileType.{ProfileType}
 use Rattle.px_real_types.specs.declared.known.Member.{Member}
 use Rattle.px_real_types.specs.declared.known.Member.TheVariants as N
-use Rattle.px_real_types.specs.Types.{struct, is_value, pointee}
+use Rattle.px_real_types.specs.Types.{struct, pointee}
 use Rattle.px_real_values.specs.declared.environment.Library.{Library}
-use Rattle.px_real_values.specs.Environment.{Signature, Callee, function, library, no_function, Meaning, undeclared, Environment, pointing_type, value_type}
+use Rattle.px_real_values.specs.Environment.{Signature, function, undeclared, Environment, pointing_type, value_type}
 use Rattle.px_real_values.specs.Spelled.{untabled}
 use Rattle.px_real_scopes.specs.Scopes.{FunctionTree, MeaningTree, a_type, an_enumerator, an_object, a_function, a_local, NamedTree, Scopes}
 use Rattle.px_real_scopes.specs.Lookups.{first_said, meaning_of, members_of, says_member, member_of, are_types, meanings}
-use Rattle.px_real_bodies.specs.Environments.{Run, library_of, declared_signature, library_or, callee_of, library_name, known_undeclared, undeclared_meaning, meant_by, environment}
+use Rattle.px_real_bodies.specs.Environments.{Run, library_of, declared_signature, library_or, callee_of, library_name, undeclared_meaning, meant_by, environment}
 use Rattle.px_real_functions.specs.Definitions as Made
 use Rattle.px_real_functions.specs.Definitions.{kept_types, value_of}
-use Rattle.px_real_typing.specs.Ranges.{IsTypeOf}
-use Rattle.px_real_typing.specs.TypedOperands.{IsSignature, IsCallee, IsMember, IsMeaning, Agrees}
+use Rattle.px_real_typing.specs.TypedOperands.{IsCallee, IsMember, IsMeaning, Agrees}
 use Rattle.px_real_typing.specs.TypedScopes.{RunAgrees, IsCell, HasMembers, IsFunction, IsKnownMember, IsMeant, AreTyped, AreNumbered, Covers}
 use Rattle.px_real_typing.proofs.Choices.{of_some}
 use Rattle.px_real_typing.proofs.ShapesTyped.{spelling_typed}

@@ -1,6 +1,6 @@
 -- What an expression is keeps the rules, where what its place sees agrees with the program.
 use Rattle.std.proofs.Common.{◌≡◌, ℕ, Bool, true, false, List, [], ◌∷◌, ◌++◌, Option, Some, None, refl, sym, subst}
-use Rattle.std.specs.Prelude.{IfSome, if◌then◌else◌, slice_get, codes, ⊤}
+use Rattle.std.specs.Prelude.{IfSome, if◌then◌else◌, slice_get, codes}
 use Rattle.std.specs.List.{AllByRecursion}
 use Rattle.std.specs.Str.{bytes_eq}
 use Rattle.px_base.specs.declared.trace.Site.{Site}
@@ -11,16 +11,15 @@ use Rattle.px_expressions.specs.Terminals.{is_in}
 use Rattle.px_meaning.specs.TypedProgram.{TypedProgram}
 use Rattle.px_meaning.specs.TreeTypes.{LocalTypes, IsDefined}
 use Rattle.px_real_expressions.specs.declared.operators.Measure.TheVariants as M
-use Rattle.px_real_expressions.specs.Lexemes.{Lexeme}
 use Rattle.px_real_expressions.specs.ExpressionTree.{ExpressionTree, ExpressionTrees, name, constant, string, parenthesised, statement, literal, form, index, call, member, pointer_member, step, prefixed, label, measure, measure_type, cast, binary, choice, choice_or, assign, no_expressions, an_expression}
 use Rattle.px_real_types.specs.declared.shape.ProfileType.{ProfileType}
 use Rattle.px_real_types.specs.declared.known.Known.{Known}
-use Rattle.px_real_types.specs.Types.{unknown, element, block_in, number_of}
+use Rattle.px_real_types.specs.Types.{unknown, block_in, number_of}
 use Rattle.px_real_values.specs.Environment.{Environment, Meaning, local, enumerator, other, undeclared, no_function, spelled}
-use Rattle.px_real_values.specs.Operands.{Operand, a_null, a_name, unless_stopped, known_of, parts, pointer_parts}
+use Rattle.px_real_values.specs.Operands.{Operand, a_null, a_name, unless_stopped, known_of, parts}
 use Rattle.px_real_values.specs.Operators.{outside_of, stopped_at, arrowed, cast_as, valued_binary}
-use Rattle.px_real_values.specs.Calls.{Given, call_of}
-use Rattle.px_real_values.specs.Values.{is_zero, valued_forms, if_defined, block_of_type, undeclared_name, numbered, meant, formed, indexed, valued, given, measured, block_of}
+use Rattle.px_real_values.specs.Calls.{call_of}
+use Rattle.px_real_values.specs.Values.{is_zero, valued_forms, if_defined, block_of_type, numbered, meant, formed, indexed, valued, given, measured, block_of}
 use Rattle.px_real_typing.specs.Ranges.{IsTypeOf, IsKnownOf}
 use Rattle.px_real_typing.specs.TypedOperands.{IsBlock, IsMeaning, Agrees, IsPassed, ArePartsTyped, IsOperand, IsGiven}
 use Rattle.px_real_typing.specs.Laws.{ExpressionsKeepTyping}
@@ -84,10 +83,10 @@ module _ (P : TypedProgram) (locals : LocalTypes) (structs : ℕ → Bool) (env 
 
   -- ---- expressions
 
-  abbrev parts_of : (a : Operand) → Good a → Parts (parts env a)
+  parts_of : (a : Operand) → Good a → Parts (parts env a)
   parts_of a h = parts_typed P locals structs env a h
 
-  abbrev unless : (a : Operand) (next : Operand → Operand) → Good a → (Good a → Good (next a)) → Good (unless_stopped a next)
+  unless : (a : Operand) (next : Operand → Operand) → Good a → (Good a → Good (next a)) → Good (unless_stopped a next)
   unless a next h on = unless_typed P locals structs env a next h on
 
   mutual

@@ -1,11 +1,10 @@
 -- What a function is keeps the rules, and what is in scope behind it is numbered, and is of the structs that there are.
-use Rattle.std.proofs.Common.{arith, ◌≡◌, ◌∙◌, ◌<◌, ◌≤◌, ◌+◌, ℕ, zero, suc, Bool, true, false, List, [], ◌∷◌, ◌++◌, map, length, Option, Some, None, refl, sym, ap, subst}
+use Rattle.std.proofs.Common.{arith, ◌≡◌, ◌∙◌, ◌<◌, ◌≤◌, ◌+◌, ℕ, suc, Bool, true, false, List, [], ◌∷◌, ◌++◌, map, length, Option, Some, None, refl, sym, ap, subst}
 use Rattle.std.specs.Prelude.{IfSome, option_map, if◌then◌else◌, slice_get, codes, ⊤}
 use Rattle.std.specs.List.{AllByRecursion}
 use Rattle.std.proofs.lemmas.List.{append-nil, length-map}
 use Rattle.std.proofs.lemmas.Option.{same_Some, none-some}
 use Rattle.px_syntax.specs.TypedTree as T
-use Rattle.px_syntax.specs.TypedTree.{Statement}
 use Rattle.px_expressions.specs.Reading.{or_else}
 use Rattle.px_meaning.specs.Values.{ValueType}
 use Rattle.px_meaning.specs.TypedProgram.{TypedProgram}
@@ -19,19 +18,18 @@ use Rattle.px_real_scopes.specs.Scopes.{FunctionTree, MeaningTree, a_type, an_en
 use Rattle.px_real_scopes.specs.Lookups.{meaning_of, behind_block, entered, left}
 use Rattle.px_real_scopes.specs.Behind.{with_name, behind_parameters}
 use Rattle.px_real_bodies.specs.Environments.{Run}
-use Rattle.px_real_bodies.specs.Places.{Function, Place, in_scopes, within, Walk}
-use Rattle.px_real_bodies.specs.Statements.{all_done}
+use Rattle.px_real_bodies.specs.Places.{Function, Place, within, Walk}
 use Rattle.px_real_functions.specs.Parameters.{parameter_names, old_names, declared_in, all_declare_parameters, HeadingTree, function_meant, function_named, listed_in, headed, heading_by, heading}
-use Rattle.px_real_functions.specs.Definitions.{kept_types, value_of, with_ints, with_declaration, with_declarations, with_parameter, with_locals, in_body, start, seen_within, walked, made, behind_body}
+use Rattle.px_real_functions.specs.Definitions.{kept_types, value_of, with_ints, with_declaration, with_declarations, with_parameter, with_locals, in_body, start, seen_within, walked, made}
 use Rattle.px_real_typing.specs.Ranges.{IsTypeOf}
 use Rattle.px_real_typing.specs.TypedScopes.{RunAgrees, IsFunction, IsMeant, IsBinding, AreTyped, IsBelow, AreNumbered, Covers, no_locals, KeepsScopes}
 use Rattle.px_real_typing.specs.Laws.{ScopesKeepTyping, FunctionsKeepTyping, IsMadeTyped}
 use Rattle.px_real_typing.proofs.RangeLemmas.{known_int}
 use Rattle.px_real_typing.proofs.ScopeLemmas.{meaning_holds, all_behind}
 use Rattle.px_real_typing.proofs.EffectsTyped.{all_statements}
-use Rattle.px_real_typing.proofs.EnteringTyped.{Follows, follows_on, Within, within_before, Moves, moves_on, stays, came, Goes, name_goes}
+use Rattle.px_real_typing.proofs.EnteringTyped.{within_before, moves_on, stays, came, Goes, name_goes}
 use Rattle.px_real_typing.proofs.BehindTyped.{With, name_with, declaration_goes, head_goes, parameter_goes}
-use Rattle.px_real_typing.proofs.WalkLemmas.{got_before, IsPlaceTyped, Ends, Walks, From, walks_on, scopes_walk}
+use Rattle.px_real_typing.proofs.WalkLemmas.{got_before, IsPlaceTyped, Walks, walks_on, scopes_walk}
 use Rattle.px_real_typing.proofs.BodiesTyped.{all_go}
 
 -- ---- where there are no locals, what is in scope is typed whatever locals there are
@@ -66,7 +64,7 @@ module _ (structs : ℕ → Bool) (run : Run) (st : Scopes) (typed : AreTyped st
   headed_is h f ps x e = by (all_declare_parameters (old_names ps) h.declarations) e
     where
       by : (b : Bool) → (if b then Some (record { function = f; parameters = ps }) else None) ≡ Some x → f ≡ x.function
-      by true e = ap (λ (y : HeadingTree). y.function) (same_Some _ x e)
+      by true e = ap (λ (y : HeadingTree). y.function) (same_Some (record { function = f; parameters = ps }) x e)
       by false e = absurd cc
 
   pub heading_typed : (h : HeadTree) (x : HeadingTree) → heading st h ≡ Some x → IsFunction structs x.function
@@ -161,7 +159,7 @@ module _ (P : TypedProgram) (structs : ℕ → Bool) (run : Run) (is_addressed :
       (λ i v e. got_before ps w.after.locals i v e))
 
   abbrev Body : Type 0 → Place → Place → Type 0 → Type 0
-  Body T a b U = Walks P structs ps locals f T a b U
+  Body X a b U = Walks P structs ps locals f X a b U
 
   abbrev Statements : Type 0
   Statements = AllByRecursion (IsStatement P locals (option_map (value_of run) x.function.result) false) w.trees
@@ -176,7 +174,7 @@ module _ (P : TypedProgram) (structs : ℕ → Bool) (run : Run) (is_addressed :
   body_typed e typed covers = body_walks.typed (record { covers = covers; locals_are = λ n t is. is })
       (record {
         scopes = record { bindings = (tt, any_bindings structs run locals st.bindings typed.bindings); definitions = typed.definitions };
-        next = sym (ap length (append-nil ps) ∙ length-map (value_of run) (kept_types x.function.parameters));
+        next = sym (ap length (append-nil ps) ∙ length-map (kept_types x.function.parameters) (value_of run));
       })
       ((heading_typed structs run st typed h x e).0)
 

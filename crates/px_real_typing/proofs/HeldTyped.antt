@@ -1,11 +1,9 @@
 -- Held expressions keep the rules: conditions, values that aren't read, and initialisers.
-use Rattle.std.proofs.Common.{◌≡◌, ℕ, zero, suc, Bool, true, false, List, [], ◌∷◌, ◌++◌, Option, Some, None}
-use Rattle.std.specs.Prelude.{IfSome, codes, ⊤}
-use Rattle.std.specs.List.{AllByRecursion}
+use Rattle.std.proofs.Common.{◌≡◌, ℕ, zero, suc, Bool, List, [], ◌∷◌, ◌++◌, Option, Some, None}
 use Rattle.px_base.specs.declared.trace.Site.{Site}
 use Rattle.px_terms.specs.declared.types.ValueType.TheVariants as V
 use Rattle.px_syntax.specs.TypedTree as T
-use Rattle.px_syntax.specs.TypedTree.{Expression, Condition}
+use Rattle.px_syntax.specs.TypedTree.{Expression}
 use Rattle.px_expressions.specs.Reading.{or_else}
 use Rattle.px_meaning.specs.TypedProgram.{TypedProgram}
 use Rattle.px_meaning.specs.TreeTypes.{LocalTypes, IsCondition, IsConditionIf}
@@ -17,7 +15,7 @@ use Rattle.px_real_scopes.specs.Scopes.{Scopes}
 use Rattle.px_real_bodies.specs.Environments.{environment}
 use Rattle.px_real_bodies.specs.Places.{Function}
 use Rattle.px_real_bodies.specs.Phrases.{expression_in, first_place}
-use Rattle.px_real_bodies.specs.Values.{separated, without_designators, listed, item_parts, env, unread_at, parts_of, decided, decided_if, initialiser_parts}
+use Rattle.px_real_bodies.specs.Values.{separated, without_designators, listed, item_parts, unread_at, parts_of, decided, decided_if, initialiser_parts}
 use Rattle.px_real_typing.specs.TypedOperands.{Agrees, IsPassed, ArePartsTyped}
 use Rattle.px_real_typing.proofs.Choices.{all_both}
 use Rattle.px_real_typing.proofs.OperandsTyped.{parts_typed, deciding_typed}

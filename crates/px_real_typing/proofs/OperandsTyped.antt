@@ -1,7 +1,6 @@
 -- What is made of an operand keeps the rules where the operand does.
 use Rattle.std.proofs.Common.{arith, ◌≡◌, ◌∙◌, ◌-◌, ◌<◌, ℕ, zero, suc, pos, Bool, true, false, List, [], ◌∷◌, ◌++◌, nat_lt, Option, Some, None, refl, sym, ap, subst, FitsSigned, w32}
-use Rattle.std.specs.Prelude.{IfSome, if◌then◌else◌, slice_get, ⊤}
-use Rattle.std.specs.List.{AllByRecursion}
+use Rattle.std.specs.Prelude.{IfSome, if◌then◌else◌}
 use Rattle.std.proofs.lemmas.Bool.{ltb-true}
 use Rattle.px_base.specs.declared.trace.Site.{Site}
 use Rattle.px_terms.specs.declared.types.TypeId.{TypeId}
@@ -10,17 +9,16 @@ use Rattle.px_terms.specs.declared.types.ValueType.TheVariants as V
 use Rattle.px_syntax.specs.TypedTree as T
 use Rattle.px_syntax.specs.TypedTree.{Expression, Expressions, Condition, expressions_of}
 use Rattle.px_syntax.specs.ProgramTree.{ProcedureTree}
-use Rattle.px_expressions.specs.Reading.{or_else}
 use Rattle.px_meaning.specs.TypedProgram.{TypedProgram}
 use Rattle.px_meaning.specs.TreeTypes.{LocalTypes, AgreesWith, IsOf, ArePassed, IsCondition}
 use Rattle.px_real_types.specs.declared.shape.ProfileType.{ProfileType}
 use Rattle.px_real_types.specs.declared.known.Known.{Known}
-use Rattle.px_real_types.specs.Types.{int, struct, is_pointer, is_int, pointee, pointer_to, same_type, is_array}
+use Rattle.px_real_types.specs.Types.{int, struct, is_pointer, is_int, pointee, pointer_to, same_type, unknown, is_array}
 use Rattle.px_real_values.specs.Environment.{Environment, type_id, pointing_type, value_type}
 use Rattle.px_real_values.specs.Operands.{Operand, of_type, a_zero, a_null, a_test, a_block, a_name, a_member, outside, a_struct, an_object, stopped, stop, counted, first_cell, reached, unless_stopped, known_of, pointer_in, parts, pointer_parts, typed_as, unwanted, needed, deciding, freed}
-use Rattle.px_real_typing.specs.Ranges.{IsTypeOf, IsKnownOf}
-use Rattle.px_real_typing.specs.TypedOperands.{HasFirst, IsBlock, Agrees, IsPassed, ArePartsTyped, IsOperand}
-use Rattle.px_real_typing.proofs.Choices.{of_test, of_option, of_one, if_test, all_both}
+use Rattle.px_real_typing.specs.Ranges.{IsKnownOf}
+use Rattle.px_real_typing.specs.TypedOperands.{HasFirst, IsPassed, ArePartsTyped, IsOperand}
+use Rattle.px_real_typing.proofs.Choices.{of_test, of_option, of_one, if_test}
 use Rattle.px_real_typing.proofs.RangeLemmas.{same_types, int_type, pointer_is, known_struct, known_int}
 
 -- a call agrees with less, too
@@ -116,7 +114,7 @@ module _ (P : TypedProgram) (locals : LocalTypes) (structs : ℕ → Bool) (env 
   parts_typed (a_name callee k word site) h = tt
   parts_typed (a_member k e block at word site) h = (reached_passed k e block at h.1 h.2, tt)
   parts_typed (outside k ps word site) h = h.1
-  parts_typed (a_struct n e word site) h = (stop_passed (e ∷ []) word site (passed e _ h.1, tt), tt)
+  parts_typed (a_struct n e word site) h = (stop_passed (e ∷ []) word site (passed e (V.Pointer (type_id env (struct n))) h.1, tt), tt)
   parts_typed (an_object k ps word site) h = (stop_passed ps word site h.1, tt)
   parts_typed (stopped ps word site) h = (stop_passed ps word site h, tt)
 
@@ -142,7 +140,7 @@ module _ (P : TypedProgram) (locals : LocalTypes) (structs : ℕ → Bool) (env 
   pointer_parts_typed (a_name callee k word site) h = tt
   pointer_parts_typed (a_member k e block at word site) h = (passed e (V.Pointer block) h.1, tt)
   pointer_parts_typed (outside k ps word site) h = h.1
-  pointer_parts_typed (a_struct n e word site) h = (passed e _ h.1, tt)
+  pointer_parts_typed (a_struct n e word site) h = (passed e (V.Pointer (type_id env (struct n))) h.1, tt)
   pointer_parts_typed (an_object k ps word site) h = h.1
   pointer_parts_typed (stopped ps word site) h = parts_typed (stopped ps word site) h
 
@@ -169,7 +167,7 @@ module _ (P : TypedProgram) (locals : LocalTypes) (structs : ℕ → Bool) (env 
   typed_as_typed t (a_name callee k word site) h = tt
   typed_as_typed t (a_member k e block at word site) h = tt
   typed_as_typed t (outside k ps word site) h = tt
-  typed_as_typed t (a_struct n e word site) h = stop_is (value_type env t) (e ∷ []) word site (passed e _ h.1, tt)
+  typed_as_typed t (a_struct n e word site) h = stop_is (value_type env t) (e ∷ []) word site (passed e (V.Pointer (type_id env (struct n))) h.1, tt)
   typed_as_typed t (an_object k ps word site) h = stop_is (value_type env t) ps word site h.1
   typed_as_typed t (stopped ps word site) h = stop_is (value_type env t) ps word site h
 
@@ -182,7 +180,7 @@ module _ (P : TypedProgram) (locals : LocalTypes) (structs : ℕ → Bool) (env 
   unwanted_typed v first (a_name callee k word site) h = tt
   unwanted_typed v first (a_member k e block at word site) h = all_passed (reached k e block at ∷ []) (reached_passed k e block at h.1 h.2, tt)
   unwanted_typed v first (outside k ps word site) h = all_passed ps h.1
-  unwanted_typed v first (a_struct n e word site) h = all_passed (e ∷ []) (passed e _ h.1, tt)
+  unwanted_typed v first (a_struct n e word site) h = all_passed (e ∷ []) (passed e (V.Pointer (type_id env (struct n))) h.1, tt)
   unwanted_typed v first (an_object k ps word site) h = all_passed ps h.1
   unwanted_typed v first (stopped ps word site) h = all_passed ps h
 
@@ -202,7 +200,7 @@ module _ (P : TypedProgram) (locals : LocalTypes) (structs : ℕ → Bool) (env 
   deciding_typed (a_name callee k word site) h = tt
   deciding_typed (a_member k e block at word site) h = all_passed (reached k e block at ∷ []) (reached_passed k e block at h.1 h.2, tt)
   deciding_typed (outside k ps word site) h = all_passed ps h.1
-  deciding_typed (a_struct n e word site) h = all_passed (e ∷ []) (passed e _ h.1, tt)
+  deciding_typed (a_struct n e word site) h = all_passed (e ∷ []) (passed e (V.Pointer (type_id env (struct n))) h.1, tt)
   deciding_typed (an_object k ps word site) h = all_passed ps h.1
   deciding_typed (stopped ps word site) h = all_passed ps h
 
@@ -249,7 +247,7 @@ module _ (P : TypedProgram) (locals : LocalTypes) (structs : ℕ → Bool) (env 
   unless_typed (a_name callee k word site) next h on = on h
   unless_typed (a_member k e block at word site) next h on = on h
   unless_typed (outside k ps word site) next h on = on h
-  unless_typed (a_struct n e word site) next h on = (passed e _ h.1, tt)
+  unless_typed (a_struct n e word site) next h on = (passed e (V.Pointer (type_id env (struct n))) h.1, tt)
   unless_typed (an_object k ps word site) next h on = h.1
   unless_typed (stopped ps word site) next h on = h
 
@@ -259,5 +257,5 @@ module _ (P : TypedProgram) (locals : LocalTypes) (structs : ℕ → Bool) (env 
   pub counted_typed : (n word : ℕ) (site : Site) → Good (counted n word site)
   counted_typed zero word site = tt
   counted_typed (suc n) word site =
-      of_test Good (nat_lt (suc n) 2147483648) (of_type int site (T.constant (pos (suc n)))) (outside _ [] word site)
+      of_test Good (nat_lt (suc n) 2147483648) (of_type int site (T.constant (pos (suc n)))) (outside unknown [] word site)
       (λ is. int_typed site (T.constant (pos (suc n))) (refl, fits (suc n) (ltb-true (suc n) 2147483648 is))) (λ is. (tt, tt))

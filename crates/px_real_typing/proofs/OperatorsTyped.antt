@@ -1,6 +1,6 @@
 -- What operators make of operands keeps the rules where these do.
-use Rattle.std.proofs.Common.{arith, ◌≡◌, ◌∙◌, ℕ, zero, suc, Bool, true, false, ◌||◌, List, [], ◌∷◌, ◌++◌, Option, Some, None, refl, sym, ap, subst}
-use Rattle.std.specs.Prelude.{IfSome, if◌then◌else◌, slice_get, codes, ⊤}
+use Rattle.std.proofs.Common.{arith, ◌≡◌, ◌∙◌, ◌-◌, ℕ, zero, suc, Bool, true, false, ◌||◌, List, [], ◌∷◌, ◌++◌, Option, Some, None, refl, sym, ap, subst}
+use Rattle.std.specs.Prelude.{IfSome, if◌then◌else◌, slice_get, codes}
 use Rattle.px_base.specs.declared.trace.Site.{Site}
 use Rattle.px_terms.specs.Types.{types_of}
 use Rattle.px_terms.specs.declared.types.TypeId.{TypeId}
@@ -16,7 +16,7 @@ use Rattle.px_expressions.specs.Reading.{or_else}
 use Rattle.px_meaning.specs.TypedProgram.{TypedProgram}
 use Rattle.px_meaning.specs.TreeTypes.{LocalTypes, type_of_cell, IsOf, IsCondition}
 use Rattle.px_real_expressions.specs.declared.operators.Prefix.{Prefix}
-use Rattle.px_real_expressions.specs.declared.operators.Prefix.TheVariants as P
+use Rattle.px_real_expressions.specs.declared.operators.Prefix.TheVariants as Before
 use Rattle.px_real_expressions.specs.declared.operators.Operator.{Operator}
 use Rattle.px_real_expressions.specs.declared.operators.Operator.TheVariants as O
 use Rattle.px_real_types.specs.declared.shape.ProfileType.{ProfileType}
@@ -31,13 +31,13 @@ use Rattle.px_real_types.specs.declared.known.Member.TheVariants as N
 use Rattle.px_real_types.specs.Types.{int, struct, pointer_to, is_pointer, is_int, is_value, pointee, number_of, same_type, unknown, known, element, record_in, member_type}
 use Rattle.px_real_values.specs.Environment.{Environment, type_id, value_type}
 use Rattle.px_real_values.specs.Spelled.{Spelled}
-use Rattle.px_real_values.specs.Operands.{Operand, of_type, a_zero, a_null, a_test, a_block, a_name, a_member, outside, a_struct, an_object, stopped, first_cell, reached, known_of, typed_value, unless_stopped, malloc_word, parts, pointer_parts, typed_as, deciding}
+use Rattle.px_real_values.specs.Operands.{Operand, of_type, a_zero, a_null, a_test, a_block, a_name, a_member, outside, a_struct, an_object, stopped, first_cell, reached, known_of, typed_value, unless_stopped, malloc_word, parts, typed_as}
 use Rattle.px_real_values.specs.Operators.{operator_text, common_type, found_type, struct_behind, outside_of, stopped_at, typed_both, computed, divided, compared, equated, valued_binary, negated, opposed, pointed_to, object_of, pointed_by, indirected, taking, prefixed, member_at, member_in, known_member, behind, arrowed, dotted, cast_word, cast_to, cast_away, cast_as}
 use Rattle.px_real_typing.specs.Ranges.{IsTypeOf, IsShapeOf, IsKnownOf}
-use Rattle.px_real_typing.specs.TypedOperands.{HasFirst, IsMember, Agrees, IsPassed, ArePartsTyped, IsOperand}
-use Rattle.px_real_typing.proofs.Choices.{of_test, of_option, if_test, all_both, of_some}
-use Rattle.px_real_typing.proofs.RangeLemmas.{same_types, int_type, struct_is, pointer_is, pointee_of, struct_of, element_of}
-use Rattle.px_real_typing.proofs.OperandsTyped.{pointing, pointer_value, plain_value, int_value, of_at, passed, all_passed, reached_passed, truth_is, parts_typed, pointer_parts_typed, typed_as_typed, deciding_typed, known_typed, unless_typed, int_typed}
+use Rattle.px_real_typing.specs.TypedOperands.{IsMember, Agrees, IsPassed, ArePartsTyped, IsOperand}
+use Rattle.px_real_typing.proofs.Choices.{of_test, of_option, all_both, of_some}
+use Rattle.px_real_typing.proofs.RangeLemmas.{same_types, struct_is, pointer_is, pointee_of, struct_of, element_of}
+use Rattle.px_real_typing.proofs.OperandsTyped.{pointing, pointer_value, plain_value, of_at, passed, truth_is, parts_typed, pointer_parts_typed, typed_as_typed, deciding_typed, known_typed, unless_typed, int_typed}
 
 -- ---- what is read of types
 
@@ -103,7 +103,7 @@ module _ (P : TypedProgram) (locals : LocalTypes) (structs : ℕ → Bool) (env 
       by : (x y : Expression) → Is (value_type env (common_type a b)) x → Is (value_type env (common_type a b)) y → (p : Bool) → is_pointer (common_type a b) ≡ p → IsCondition P locals (T.compare (if p then of_places else of_ints) x y site)
       by x y hx hy true is =
           let e = sym (pointer_value env (common_type a b) is) in
-          places x y _ (of_at P locals structs env (value_type env (common_type a b)) _ x e hx) (of_at P locals structs env (value_type env (common_type a b)) _ y e hy)
+          places x y (type_id env (record { base = (common_type a b).base; stars = (common_type a b).stars - 1 })) (of_at P locals structs env (value_type env (common_type a b)) (V.Pointer (type_id env (record { base = (common_type a b).base; stars = (common_type a b).stars - 1 }))) x e hx) (of_at P locals structs env (value_type env (common_type a b)) (V.Pointer (type_id env (record { base = (common_type a b).base; stars = (common_type a b).stars - 1 }))) y e hy)
       by x y hx hy false is =
           let e = sym (plain_value env (common_type a b) is) in
           ints x y (of_at P locals structs env (value_type env (common_type a b)) V.Int x e hx) (of_at P locals structs env (value_type env (common_type a b)) V.Int y e hy)
@@ -135,9 +135,9 @@ module _ (P : TypedProgram) (locals : LocalTypes) (structs : ℕ → Bool) (env 
   cast_to_typed t site (of_type u at e) ht h =
       of_test Good (same_type t u) (of_type u at e) (outside (known t) (e ∷ []) (cast_word env) site) (λ is. h) (λ is. (ht, (passed P locals structs env e (value_type env u) h.1, tt)))
   cast_to_typed t site (a_zero at) ht h =
-      of_test Good (is_pointer t) (of_type t site T.null) (a_zero at) (λ is. (ht, (_, pointer_value env t is))) (λ is. tt)
+      of_test Good (is_pointer t) (of_type t site T.null) (a_zero at) (λ is. (ht, (type_id env (record { base = t.base; stars = t.stars - 1 }), pointer_value env t is))) (λ is. tt)
   cast_to_typed t site (a_null word at) ht h =
-      of_test Good (is_pointer t) (of_type t site T.null) (outside (known t) [] (cast_word env) site) (λ is. (ht, (_, pointer_value env t is))) (λ is. (ht, tt))
+      of_test Good (is_pointer t) (of_type t site T.null) (outside (known t) [] (cast_word env) site) (λ is. (ht, (type_id env (record { base = t.base; stars = t.stars - 1 }), pointer_value env t is))) (λ is. (ht, tt))
   cast_to_typed t site (a_test c) ht h =
       of_test Good (is_int t) (a_test c) (outside (known t) (T.truth c ∷ []) (cast_word env) site) (λ is. h) (λ is. (ht, (passed P locals structs env (T.truth c) V.Int (truth_is P locals structs env c h), tt)))
   cast_to_typed t site (a_block u at) ht h =
@@ -236,33 +236,33 @@ module _ (P : TypedProgram) (locals : LocalTypes) (structs : ℕ → Bool) (env 
         (λ is. object_typed (element (known_of a)) text site a (element_of structs (known_of a) (known_typed P locals structs env a h)) h)
 
     taking_typed : (p : Prefix) (site : Site) (a : Operand) → Good a → Good (taking env p site a)
-    taking_typed P.Indirection site a h = indirected_typed (codes "*") site a h
-    taking_typed P.Minus site a h = negated_typed site a h
-    taking_typed P.Not site a h = opposed_typed site a h
-    taking_typed P.Plus site a h = (tt, parts_of a h)
-    taking_typed P.Complement site a h = (tt, parts_of a h)
-    taking_typed P.Real site a h = (tt, parts_of a h)
-    taking_typed P.Imaginary site a h = (tt, parts_of a h)
-    taking_typed P.Address site a h = h
-    taking_typed P.Increment site a h = h
-    taking_typed P.Decrement site a h = h
-    taking_typed P.Extension site a h = h
+    taking_typed Before.Indirection site a h = indirected_typed (codes "*") site a h
+    taking_typed Before.Minus site a h = negated_typed site a h
+    taking_typed Before.Not site a h = opposed_typed site a h
+    taking_typed Before.Plus site a h = (tt, parts_of a h)
+    taking_typed Before.Complement site a h = (tt, parts_of a h)
+    taking_typed Before.Real site a h = (tt, parts_of a h)
+    taking_typed Before.Imaginary site a h = (tt, parts_of a h)
+    taking_typed Before.Address site a h = h
+    taking_typed Before.Increment site a h = h
+    taking_typed Before.Decrement site a h = h
+    taking_typed Before.Extension site a h = h
 
     unless : (p : Prefix) (site : Site) (a : Operand) → Good a → Good (unless_stopped a (taking env p site))
     unless p site a h = unless_typed P locals structs env a (taking env p site) h (taking_typed p site a)
 
     pub prefixed_typed : (p : Prefix) (site : Site) (a : Operand) → Good a → Good (prefixed env p site a)
-    prefixed_typed P.Address site a h = (tt, pointer_parts_typed P locals structs env a h)
-    prefixed_typed P.Increment site a h = pointer_parts_typed P locals structs env a h
-    prefixed_typed P.Decrement site a h = pointer_parts_typed P locals structs env a h
-    prefixed_typed P.Extension site a h = h
-    prefixed_typed P.Indirection site a h = unless P.Indirection site a h
-    prefixed_typed P.Minus site a h = unless P.Minus site a h
-    prefixed_typed P.Not site a h = unless P.Not site a h
-    prefixed_typed P.Plus site a h = unless P.Plus site a h
-    prefixed_typed P.Complement site a h = unless P.Complement site a h
-    prefixed_typed P.Real site a h = unless P.Real site a h
-    prefixed_typed P.Imaginary site a h = unless P.Imaginary site a h
+    prefixed_typed Before.Address site a h = (tt, pointer_parts_typed P locals structs env a h)
+    prefixed_typed Before.Increment site a h = pointer_parts_typed P locals structs env a h
+    prefixed_typed Before.Decrement site a h = pointer_parts_typed P locals structs env a h
+    prefixed_typed Before.Extension site a h = h
+    prefixed_typed Before.Indirection site a h = unless Before.Indirection site a h
+    prefixed_typed Before.Minus site a h = unless Before.Minus site a h
+    prefixed_typed Before.Not site a h = unless Before.Not site a h
+    prefixed_typed Before.Plus site a h = unless Before.Plus site a h
+    prefixed_typed Before.Complement site a h = unless Before.Complement site a h
+    prefixed_typed Before.Real site a h = unless Before.Real site a h
+    prefixed_typed Before.Imaginary site a h = unless Before.Imaginary site a h
 
     -- ---- members
 

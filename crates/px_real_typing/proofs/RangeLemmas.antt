@@ -1,19 +1,16 @@
 -- What pointers point to, and what is known of members, is of the structs that there are where they are.
 use Rattle.std.proofs.Common.{arith, ◌≡◌, ◌∙◌, ◌≤◌, ◌-◌, ◌+◌, ℕ, zero, suc, Bool, true, false, ◌&&◌, ◌||◌, nat_eq, nat_lt, Option, Some, None, refl, sym, ap, ap₂, subst, true≢false}
-use Rattle.std.specs.Prelude.{IfSome, if◌then◌else◌, ⊤}
-use Rattle.std.proofs.lemmas.Bool.{and_parts, eqb-true}
-use Rattle.std.proofs.lemmas.Bool.Decides.{nat_tests}
+use Rattle.std.specs.Prelude.{IfSome, if◌then◌else◌}
+use Rattle.std.proofs.lemmas.Bool.{and_parts, eqb-true, lt-ltb}
 use Rattle.std.proofs.lemmas.Option.{same_Some}
-use Rattle.px_expressions.specs.Reading.{or_else}
 use Rattle.px_real_types.specs.declared.shape.Base.{Base}
 use Rattle.px_real_types.specs.declared.shape.Base.TheVariants as B
 use Rattle.px_real_types.specs.declared.shape.Shape.TheVariants as S
 use Rattle.px_real_types.specs.declared.shape.ProfileType.{ProfileType}
 use Rattle.px_real_types.specs.declared.known.Known.{Known}
 use Rattle.px_real_types.specs.declared.known.Known.TheVariants as K
-use Rattle.px_real_types.specs.declared.known.Member.{Member}
-use Rattle.px_real_types.specs.Types.{int, struct, pointer_to, is_pointer, is_int_base, is_int, is_value, pointee, same_base, same_type, struct_number, number_of, unknown, known, known_if, element, block_in}
-use Rattle.px_real_typing.specs.Ranges.{IsBaseOf, IsTypeOf, IsKnownOf}
+use Rattle.px_real_types.specs.Types.{int, struct, pointer_to, is_pointer, is_int_base, is_int, is_value, pointee, same_base, same_type, struct_number, number_of, known, known_if, element, block_in}
+use Rattle.px_real_typing.specs.Ranges.{IsTypeOf, IsKnownOf}
 
 -- ---- types that look the same
 
@@ -48,31 +45,37 @@ struct_is t n = by (nat_eq t.stars 0) refl t.base refl
     by true is (B.Struct m) at e = ap₂ (λ b k. record { base = b; stars = k }) (at ∙ ap B.Struct (same_Some m n e)) (eqb-true t.stars 0 is)
 
 -- what is no struct is a value
+some_stars : (n : ℕ) → nat_eq n 0 ≡ false → nat_lt 0 n ≡ true
+some_stars zero e = absurd (true≢false e)
+some_stars (suc n) e = lt-ltb 0 (suc n) (omega arith)
+
 pub value_unless : (t : ProfileType) → number_of t ≡ None → is_value t ≡ true
 value_unless t = by (nat_eq t.stars 0) refl t.base
   where
-    some : (b : Bool) → nat_eq t.stars 0 ≡ false → is_pointer t ≡ true
-    some b e = grind (arith, nat_tests)
-
     by : (b : Bool) → nat_eq t.stars 0 ≡ b → (base : Base) → (if b then struct_number base else None) ≡ None → (is_int_base base || is_pointer t) ≡ true
     by b is B.Int e = refl
     by true is (B.Struct m) e = absurd cc
-    by false is (B.Struct m) e = some false is
+    by false is (B.Struct m) e = some_stars t.stars is
 
 -- ---- pointers
 
+one_less : (n : ℕ) → n + 1 - 1 ≡ n
+one_less n = omega arith
+
+one_star : (n : ℕ) → nat_lt 0 (n + 1) ≡ true
+one_star n = lt-ltb 0 (n + 1) (omega arith)
+
 pub pointer_is : (t : ProfileType) → pointee (pointer_to t) ≡ Some t
 pointer_is t =
-    let a : nat_lt 0 (t.stars + 1) ≡ true = grind (arith, nat_tests) in
-    let b : t.stars + 1 - 1 ≡ t.stars = omega arith in
-    ap (λ b. if b then Some (record { base = t.base; stars = t.stars + 1 - 1 }) else None) a ∙ ap (λ n. Some (record { base = t.base; stars = n })) b
+    ap (λ b. if b then Some (record { base = t.base; stars = t.stars + 1 - 1 }) else None) (one_star t.stars)
+    ∙ ap (λ n. Some (record { base = t.base; stars = n })) (one_less t.stars)
 
 module _ (structs : ℕ → Bool) where
   pub pointee_of : (t u : ProfileType) → pointee t ≡ Some u → IsTypeOf structs t → IsTypeOf structs u
   pointee_of t u e h = by (is_pointer t) e
     where
       by : (b : Bool) → (if b then Some (record { base = t.base; stars = t.stars - 1 }) else None) ≡ Some u → IsTypeOf structs u
-      by true e = subst (IsTypeOf structs) (same_Some _ u e) (h.0, let l : t.stars ≤ 2 = h.1 in omega (arith, l))
+      by true e = subst (IsTypeOf structs) (same_Some (record { base = t.base; stars = t.stars - 1 }) u e) (h.0, let l : t.stars ≤ 2 = h.1 in omega (arith, l))
       by false e = absurd cc
 
   pub struct_of : (t : ProfileType) (n : ℕ) → number_of t ≡ Some n → IsTypeOf structs t → structs n ≡ true

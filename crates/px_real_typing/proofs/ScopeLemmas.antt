@@ -1,6 +1,6 @@
 -- What is found in scopes is of the structs that there are where all that is in scope is.
-use Rattle.std.proofs.Common.{arith, ◌≡◌, ◌∙◌, ◌<◌, ◌≤◌, ◌+◌, ℕ, zero, suc, Bool, true, false, ◌&&◌, not, List, [], ◌∷◌, ◌++◌, map, length, nat_eq, Option, Some, None, is_some, refl, sym, ap, subst, true≢false}
-use Rattle.std.specs.Prelude.{IfSome, if◌then◌else◌, ⊤}
+use Rattle.std.proofs.Common.{arith, ◌≡◌, ◌∙◌, ◌<◌, ◌≤◌, ◌+◌, ℕ, Bool, true, false, ◌&&◌, List, [], ◌∷◌, ◌++◌, length, nat_eq, Option, Some, None, refl}
+use Rattle.std.specs.Prelude.{IfSome, if◌then◌else◌}
 use Rattle.std.specs.List.{AllByRecursion}
 use Rattle.std.specs.Str.{bytes_eq}
 use Rattle.std.proofs.lemmas.Bool.{eqb-true}
@@ -8,17 +8,14 @@ use Rattle.px_base.specs.declared.trace.Site.{Site}
 use Rattle.px_expressions.specs.Reading.{or_else}
 use Rattle.px_meaning.specs.TreeTypes.{LocalTypes}
 use Rattle.px_real_types.specs.declared.shape.Base.TheVariants as B
-use Rattle.px_real_types.specs.declared.shape.Shape.{Shape}
 use Rattle.px_real_types.specs.declared.shape.Shape.TheVariants as S
-use Rattle.px_real_types.specs.declared.known.Known.{Known}
 use Rattle.px_real_types.specs.declared.known.Known.TheVariants as K
-use Rattle.px_real_types.specs.declared.known.Member.{Member}
 use Rattle.px_real_types.specs.Types.{unknown}
 use Rattle.px_real_declarations.specs.DeclarationTree.{SpecifierTree, keyword, type_name, group, tagged}
 use Rattle.px_real_types.specs.Specifiers.{specified}
 use Rattle.px_real_scopes.specs.Scopes.{MeaningTree, a_type, an_enumerator, an_object, a_function, a_local, TagTree, a_record, an_enumeration, BindingTree, begins_block, of_name, of_tag, of_place, NamedTree, DefinitionTree, Scopes}
-use Rattle.px_real_scopes.specs.Lookups.{first_said, says_name, says_tag, same_place, says_place, meaning_of, tag_of, placed, own_block, behind_block, is_seen, record_known, record_shape, says_members, members_of, is_defined, says_member, member_of, seen, type_in, number_in, known_type, number_of, shape_of, meanings}
-use Rattle.px_real_scopes.specs.Knowing.{specifier_known, said_known, specified_known, type_specifier}
+use Rattle.px_real_scopes.specs.Lookups.{first_said, says_name, says_tag, same_place, says_place, meaning_of, tag_of, placed, own_block, behind_block, is_seen, record_known, record_shape, says_members, type_in, number_in, known_type, number_of, shape_of, meanings}
+use Rattle.px_real_scopes.specs.Knowing.{specifier_known, said_known, specified_known}
 use Rattle.px_real_bodies.specs.Environments.{Run}
 use Rattle.px_real_typing.specs.Ranges.{IsShapeOf, IsKnownOf}
 use Rattle.px_real_typing.specs.TypedScopes.{IsKnownMember, IsDefinition, IsMeant, IsBinding, AreTyped, IsTagBelow, IsBelow, IsDefinedBelow, AreNumbered}
@@ -26,15 +23,15 @@ use Rattle.px_real_typing.proofs.ShapesTyped.{AreIn, specified_in, seen_in, shap
 
 -- ---- what the first says holds, where each would hold that is said
 
-pub first_holds : {A B : Type 0} (Q : A → Type 0) (R : B → Type 0) (says : A → Option B) → ((a : A) → Q a → IfSome (says a) R) → (xs : List A) → AllByRecursion Q xs → IfSome (first_said says xs) R
+pub first_holds : {A C : Type 0} (Q : A → Type 0) (R : C → Type 0) (says : A → Option C) → ((a : A) → Q a → IfSome (says a) R) → (xs : List A) → AllByRecursion Q xs → IfSome (first_said says xs) R
 first_holds Q R says on [] h = tt
-first_holds {B = B} Q R says on (x ∷ xs) h = by (says x) (on x h.0)
+first_holds {C = C} Q R says on (x ∷ xs) h = by (says x) (on x h.0)
   where
-    by : (o : Option B) → IfSome o R → IfSome (or_else o (λ b. Some b) (first_said says xs)) R
+    by : (o : Option C) → IfSome o R → IfSome (or_else o (λ b. Some b) (first_said says xs)) R
     by (Some b) k = k
     by None k = first_holds Q R says on xs h.1
 
-if_said : {B : Type 0} (R : B → Type 0) (b : Bool) (x : B) → R x → IfSome (if b then Some x else None) R
+pub if_said : {C : Type 0} (R : C → Type 0) (b : Bool) (x : C) → R x → IfSome (if b then Some x else None) R
 if_said R true x h = h
 if_said R false x h = tt
 

@@ -1,7 +1,6 @@
 -- The types that declarations say are of the structs that there are, where those that names and tags mean are.
-use Rattle.std.proofs.Common.{arith, ◌≡◌, ◌<◌, ◌≤◌, ◌+◌, ℕ, zero, suc, Bool, true, false, ◌||◌, List, [], ◌∷◌, map, nat_lt, Option, Some, None, Ok, Err, refl}
+use Rattle.std.proofs.Common.{arith, ◌≡◌, ◌<◌, ◌≤◌, ◌+◌, ℕ, Bool, true, false, ◌||◌, List, [], ◌∷◌, nat_lt, Option, Some, None, Ok, Err, refl}
 use Rattle.std.specs.Prelude.{IfSome, if◌then◌else◌, ⊤}
-use Rattle.std.specs.List.{AllByRecursion}
 use Rattle.std.proofs.lemmas.Bool.{ltb-true}
 use Rattle.px_base.specs.declared.trace.Site.{Site}
 use Rattle.px_expressions.specs.Reading.{or_else}
@@ -17,7 +16,6 @@ use Rattle.px_real_declaring.specs.Whole.{whole_by}
 use Rattle.px_real_expressions.specs.Stops.{Read}
 use Rattle.px_real_types.specs.declared.shape.Shape.{Shape}
 use Rattle.px_real_types.specs.declared.shape.Shape.TheVariants as S
-use Rattle.px_real_types.specs.declared.shape.ProfileType.{ProfileType}
 use Rattle.px_real_types.specs.declared.words.Mark.TheVariants as M
 use Rattle.px_real_types.specs.declared.words.Says.{Says}
 use Rattle.px_real_types.specs.declared.words.Says.TheVariants as W
@@ -25,18 +23,18 @@ use Rattle.px_real_types.specs.declared.specifiers.Said.{Said}
 use Rattle.px_real_types.specs.declared.specifiers.Said.TheVariants as D
 use Rattle.px_real_types.specs.declared.known.Known.{Known}
 use Rattle.px_real_types.specs.declared.known.Known.TheVariants as K
-use Rattle.px_real_types.specs.Shapes.{pointer_to, array_of, as_parameter, in_profile}
+use Rattle.px_real_types.specs.Shapes.{pointer_to, array_of, as_parameter}
 use Rattle.px_real_types.specs.Scopes.{Meanings, any_marks}
 use Rattle.px_real_types.specs.Words.{says_of, is_struct_word}
 use Rattle.px_real_types.specs.Specifiers.{groups_mark, unless_spoilt, spoilt, with_int, with_signed, with_shape, with_word, with_group, struct_of, tagged_shape, with_specifier, said_by, shape_of, specified, qualifiers_spoil}
 use Rattle.px_real_types.specs.Declarators.{starred, declared, declared_shape, SignatureTree, bare_name, function_in}
 use Rattle.px_real_types.specs.Cells.{parameter_of}
 use Rattle.px_real_types.specs.Types.{unknown, is_array, record_in}
-use Rattle.px_real_values.specs.Spelled.{Spelled, spelled_in, spelled_of, spelled_by}
+use Rattle.px_real_values.specs.Spelled.{spelled_in, spelled_of, spelled_by}
 use Rattle.px_real_scopes.specs.Lookups.{seen}
 use Rattle.px_real_scopes.specs.Knowing as Knowing
 use Rattle.px_real_scopes.specs.Knowing.{beyond, beyond_declarator, declared_known, parameter_known}
-use Rattle.px_real_typing.specs.Ranges.{IsBaseOf, IsTypeOf, IsShapeOf, IsKnownOf}
+use Rattle.px_real_typing.specs.Ranges.{IsTypeOf, IsShapeOf, IsKnownOf}
 use Rattle.px_real_typing.proofs.OperatorsTyped.{profiled}
 
 -- what names, tags and places mean is of the structs that there are

@@ -1,7 +1,6 @@
 -- Walks from place to place: what is in scope, and the locals, go on, and what comes of them keeps the rules.
-use Rattle.std.proofs.Common.{arith, ◌≡◌, ◌∙◌, ◌<◌, ◌≤◌, ◌+◌, ℕ, zero, suc, Bool, List, [], ◌∷◌, ◌++◌, length, append_assoc, Option, Some, None, refl, sym, ap, subst}
+use Rattle.std.proofs.Common.{arith, ◌≡◌, ◌∙◌, ◌<◌, ◌≤◌, ◌+◌, ℕ, zero, suc, Bool, List, [], ◌∷◌, ◌++◌, length, append_assoc, Some, refl, sym, ap, subst}
 use Rattle.std.specs.Prelude.{slice_get, ⊤}
-use Rattle.std.specs.List.{AllByRecursion}
 use Rattle.std.proofs.lemmas.List.{append-nil, length-append}
 use Rattle.std.proofs.lemmas.Option.{none-some}
 use Rattle.px_meaning.specs.Values.{ValueType}
@@ -9,11 +8,10 @@ use Rattle.px_meaning.specs.TypedProgram.{TypedProgram}
 use Rattle.px_meaning.specs.TreeTypes.{LocalTypes}
 use Rattle.px_real_types.specs.declared.shape.ProfileType.{ProfileType}
 use Rattle.px_real_values.specs.Environment.{value_type}
-use Rattle.px_real_scopes.specs.Scopes.{Scopes, BindingTree}
-use Rattle.px_real_scopes.specs.Lookups.{behind_block, entered, left}
+use Rattle.px_real_scopes.specs.Scopes.{Scopes}
+use Rattle.px_real_scopes.specs.Lookups.{behind_block}
 use Rattle.px_real_bodies.specs.Environments.{environment}
 use Rattle.px_real_bodies.specs.Places.{Function, Place, in_scopes, within, outside_of_it, with_one_local}
-use Rattle.px_real_bodies.specs.Values.{env}
 use Rattle.px_real_functions.specs.Definitions.{value_of}
 use Rattle.px_real_typing.specs.Ranges.{IsTypeOf}
 use Rattle.px_real_typing.specs.TypedOperands.{Agrees}

@@ -1,7 +1,6 @@
 -- What keeps the typing rules of what is made of expressions, where their names mean what the environment says.
-use Rattle.std.specs.Prelude.{◌≡◌, ℕ, Bool, true, List, map, slice_get, Option, Some, IfSome, option_map, ⊤}
+use Rattle.std.specs.Prelude.{◌≡◌, ℕ, Bool, true, List, map, slice_get, Some, IfSome, option_map, ⊤}
 use Rattle.std.specs.List.{AllByRecursion}
-use Rattle.px_base.specs.declared.trace.FieldId.{FieldId}
 use Rattle.px_syntax.specs.TypedTree.{Expression, no_expressions, an_expression}
 use Rattle.px_meaning.specs.Values.{TypeId, ValueType, Pointer, One}
 use Rattle.px_meaning.specs.TypedProgram.{TypedProgram}

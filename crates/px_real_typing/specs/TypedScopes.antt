@@ -1,10 +1,9 @@
 -- What keeps the typing rules of what is in scope, and of what a run knows.
-use Rattle.std.specs.Prelude.{◌≡◌, ℕ, ◌<◌, Bool, true, List, map, length, slice_get, Option, Some, None, IfSome, option_map, ⊤}
+use Rattle.std.specs.Prelude.{◌≡◌, ℕ, ◌<◌, Bool, true, List, map, length, slice_get, Some, None, IfSome, option_map, ⊤}
 use Rattle.std.specs.List.{AllByRecursion}
-use Rattle.px_meaning.specs.Values.{ValueType, One}
+use Rattle.px_meaning.specs.Values.{One}
 use Rattle.px_meaning.specs.TypedProgram.{TypedProgram}
 use Rattle.px_meaning.specs.TreeTypes.{LocalTypes, type_of_cell, IsDefined, AgreesWith}
-use Rattle.px_base.specs.declared.trace.ProcId.{ProcId}
 use Rattle.px_real_types.specs.declared.shape.ProfileType.{ProfileType}
 use Rattle.px_real_types.specs.declared.known.Member.{Member}
 use Rattle.px_real_types.specs.declared.known.Member.TheVariants as N
