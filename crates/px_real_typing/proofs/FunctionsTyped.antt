@@ -137,7 +137,7 @@ module _ (P : TypedProgram) (structs : ℕ → Bool) (run : Run) (is_addressed :
 
   -- the parameters, and then the other locals
   abbrev locals : LocalTypes
-  locals n = slice_get (map (value_of run) (kept_types x.function.parameters) ++ (walked run is_addressed st h x ss).after.locals) n
+  locals = λ n. slice_get (map (value_of run) (kept_types x.function.parameters) ++ (walked run is_addressed st h x ss).after.locals) n
 
   abbrev K : Type 0
   K = AllByRecursion (λ o. IfSome o (IsTypeOf structs)) x.function.parameters
@@ -154,7 +154,9 @@ module _ (P : TypedProgram) (structs : ℕ → Bool) (run : Run) (is_addressed :
       let a = ints_go structs run locals (old_names x.parameters) (entered st) entered_numbered in
       let b = declarations_go structs run locals (declared_in h x.parameters) (with_ints (old_names x.parameters) (entered st)) a.numbered in
       let c = moves_on structs a b in
-      moves_on structs (record { follows = c.follows; numbered = c.numbered; typed = λ w u. (c.typed w u.0, u.1) })
+      let middle = with_declarations (declared_in h x.parameters) (with_ints (old_names x.parameters) (entered st)) in
+      let d : With structs run locals K (entered st) middle = record { follows = c.follows; numbered = c.numbered; typed = λ w u. (c.typed w u.0, u.1) } in
+      moves_on structs d
       (locals_go structs run locals K is_addressed 0 (parameter_names x.parameters) x.function.parameters (with_declarations (declared_in h x.parameters) (with_ints (old_names x.parameters) (entered st))) c.numbered (λ k. k)
       (λ i v e. got_before ps w.after.locals i v e))
 

@@ -69,7 +69,7 @@ module _ (P : TypedProgram) (structs : ℕ → Bool) (ps : List ValueType) (loca
 
   -- ---- one after the other
 
-  pub stands : (T : Type 0) (at : Place) (U : Type 0) → AreNumbered at.scopes → (Agrees P locals structs (environment f.run at.scopes) → T → U) → From T at at U
+  pub stands : (T : Type 0) (at : Place) (U : Type 0) → AreNumbered at.scopes → (Agrees P locals structs (environment f.run at.scopes) → T → U) → Walks P structs ps locals f T at at U
   stands T at U n on = record {
     follows = record { block = refl; records = omega arith; members = λ k ms e. e };
     more = ([], sym (append-nil at.locals));
@@ -77,7 +77,7 @@ module _ (P : TypedProgram) (structs : ℕ → Bool) (ps : List ValueType) (loca
     typed = λ e h t. (h, on (seen_at at n e h) t);
   }
 
-  pub walks_on : {T U V : Type 0} {a b c : Place} → From T a b U → From T b c V → From T a c (U × V)
+  pub walks_on : {T U V : Type 0} {a b c : Place} → Walks P structs ps locals f T a b U → Walks P structs ps locals f T b c V → Walks P structs ps locals f T a c (U × V)
   walks_on {a = a} {b = b} {c = c} h g = record {
     follows = follows_on h.follows g.follows;
     more = (h.more.0 ++ g.more.0, g.more.1 ∙ ap (λ xs. xs ++ g.more.0) h.more.1 ∙ append_assoc a.locals h.more.0 g.more.0);
@@ -87,11 +87,11 @@ module _ (P : TypedProgram) (structs : ℕ → Bool) (ps : List ValueType) (loca
         let y = g.typed e x.0 t in (y.0, (x.1, y.1)));
   }
 
-  pub walks_as : {T U V : Type 0} {a b : Place} → From T a b U → (U → V) → From T a b V
+  pub walks_as : {T U V : Type 0} {a b : Place} → Walks P structs ps locals f T a b U → (U → V) → Walks P structs ps locals f T a b V
   walks_as h on = record { follows = h.follows; more = h.more; numbered = h.numbered; typed = λ e p t. (let x = h.typed e p t in (x.0, on x.1)) }
 
   -- with what is seen where it begins, and where it ends
-  pub walks_also : {T U V : Type 0} {a b : Place} → AreNumbered a.scopes → From T a b U → (Agrees P locals structs (environment f.run a.scopes) → V) → From T a b (V × U)
+  pub walks_also : {T U V : Type 0} {a b : Place} → AreNumbered a.scopes → Walks P structs ps locals f T a b U → (Agrees P locals structs (environment f.run a.scopes) → V) → Walks P structs ps locals f T a b (V × U)
   walks_also {a = a} {b = b} n h on = record {
     follows = h.follows;
     more = h.more;
@@ -99,7 +99,7 @@ module _ (P : TypedProgram) (structs : ℕ → Bool) (ps : List ValueType) (loca
     typed = λ e p t. (let x = h.typed e p t in (x.0, (on (seen_at a n (ends_before a b h.follows h.more e) p), x.1)));
   }
 
-  pub walks_then : {T U V : Type 0} {a b : Place} → From T a b U → (Agrees P locals structs (environment f.run b.scopes) → V) → From T a b (U × V)
+  pub walks_then : {T U V : Type 0} {a b : Place} → Walks P structs ps locals f T a b U → (Agrees P locals structs (environment f.run b.scopes) → V) → Walks P structs ps locals f T a b (U × V)
   walks_then {b = b} h on = record {
     follows = h.follows;
     more = h.more;
@@ -109,7 +109,7 @@ module _ (P : TypedProgram) (structs : ℕ → Bool) (ps : List ValueType) (loca
 
   -- ---- what is in scope alone goes on
 
-  pub scopes_walk : (T : Type 0) (at : Place) (st : Scopes) → Moves structs at.scopes st (AreTyped structs f.run locals at.scopes × T) (AreTyped structs f.run locals st × T) → From T at (in_scopes at st) ⊤
+  pub scopes_walk : (T : Type 0) (at : Place) (st : Scopes) → Moves structs at.scopes st (AreTyped structs f.run locals at.scopes × T) (AreTyped structs f.run locals st × T) → Walks P structs ps locals f T at (in_scopes at st) ⊤
   scopes_walk T at st m = record {
     follows = m.follows;
     more = ([], sym (append-nil at.locals));
@@ -122,7 +122,7 @@ module _ (P : TypedProgram) (structs : ℕ → Bool) (ps : List ValueType) (loca
   pub enters : (at : Place) → AreNumbered at.scopes → AreNumbered ((within at).scopes)
   enters at n = record { bindings = (tt, n.bindings); definitions = n.definitions }
 
-  pub scoped : {U : Type 0} (at b : Place) → From ⊤ (within at) b U → From ⊤ at (outside_of_it b) U
+  pub scoped : {U : Type 0} (at b : Place) → Walks P structs ps locals f ⊤ (within at) b U → Walks P structs ps locals f ⊤ at (outside_of_it b) U
   scoped at b h = record {
     follows = record { block = ap behind_block h.follows.block; records = h.follows.records; members = h.follows.members };
     more = h.more;
@@ -139,7 +139,7 @@ module _ (P : TypedProgram) (structs : ℕ → Bool) (ps : List ValueType) (loca
   next_is xs v n h = let a = length-append ps xs in let b = length-append ps (xs ++ v ∷ []) in let c = length-append xs (v ∷ []) in omega (arith, h, a, b, c)
 
   pub local_walks : (T : Type 0) (at : Place) (text : List ℕ) (t : ProfileType) → AreNumbered at.scopes → (T → IsTypeOf structs t)
-      → From T at (with_one_local (environment f.run at.scopes) text t at) (locals at.next ≡ Some (value_of f.run t))
+      → Walks P structs ps locals f T at (with_one_local (environment f.run at.scopes) text t at) (locals at.next ≡ Some (value_of f.run t))
   local_walks T at text t n ok =
       let v = value_type (environment f.run at.scopes) t in
       record {
@@ -153,7 +153,7 @@ module _ (P : TypedProgram) (structs : ℕ → Bool) (ps : List ValueType) (loca
       }
 
   -- with what is known where the second begins
-  pub walks_given : (K : Type 0) {U V : Type 0} (a b c : Place) → From ⊤ a b U → (Within structs b.scopes → AreTyped structs f.run locals b.scopes → K) → From K b c V → From ⊤ a c V
+  pub walks_given : (K : Type 0) {U V : Type 0} (a b c : Place) → Walks P structs ps locals f ⊤ a b U → (Within structs b.scopes → AreTyped structs f.run locals b.scopes → K) → Walks P structs ps locals f K b c V → Walks P structs ps locals f ⊤ a c V
   walks_given K a b c h k g = record {
     follows = follows_on h.follows g.follows;
     more = (h.more.0 ++ g.more.0, g.more.1 ∙ ap (λ xs. xs ++ g.more.0) h.more.1 ∙ append_assoc a.locals h.more.0 g.more.0);
