@@ -158,7 +158,7 @@ module _ (P : TypedProgram) (structs : ℕ → Bool) (run : Run) (is_addressed :
       let d : With structs run locals K (entered st) middle = record { follows = c.follows; numbered = c.numbered; typed = λ w u. (c.typed w u.0, u.1) } in
       moves_on structs d
       (locals_go structs run locals K is_addressed 0 (parameter_names x.parameters) x.function.parameters (with_declarations (declared_in h x.parameters) (with_ints (old_names x.parameters) (entered st))) c.numbered (λ k. k)
-      (λ i v e. got_before ps w.after.locals i v e))
+      (λ i v e. subst (λ j. locals j ≡ Some v) (let a : i ≡ 0 + i = omega arith in a) (got_before ps w.after.locals i v e)))
 
   abbrev Body : Type 0 → Place → Place → Type 0 → Type 0
   Body X a b U = Walks P structs ps locals f X a b U
