@@ -133,7 +133,7 @@ module _ (structs : ℕ → Bool) (run : Run) (locals : LocalTypes) where
   pub declaration_goes : (st : Scopes) (d : DeclarationTree) (st1 : Scopes) → behind st d ≡ Some st1 → AreNumbered st → Goes structs run locals st st1
   declaration_goes st (assertion a) st1 e h = goes_is structs run locals st st st1 (stays structs st (Typed st) h) e
   declaration_goes st (declaration ss xs) st1 e h =
-      let c = came (with_specifiers (declares_none xs) ss st) (λ z. Some (with_declared (is_typedef ss) (specified_known z ss) (type_word ss) z xs)) st1 e in
+      let c = came (λ (z : Scopes). Some (with_declared (is_typedef ss) (specified_known z ss) (type_word ss) z xs)) (with_specifiers (declares_none xs) ss st) st1 e in
       let m = specifiers_go structs run locals (declares_none xs) ss st c.0 c.1 h in
       goes_is structs run locals st (with_declared (is_typedef ss) (specified_known c.0 ss) (type_word ss) c.0 xs) st1
       (goes_with (IsKnownOf structs (specified_known c.0 ss)) st c.0 (with_declared (is_typedef ss) (specified_known c.0 ss) (type_word ss) c.0 xs) m
@@ -153,7 +153,7 @@ module _ (structs : ℕ → Bool) (run : Run) (locals : LocalTypes) where
 
   pub head_goes : (st : Scopes) (h : HeadTree) (st1 : Scopes) → behind_head st h ≡ Some st1 → AreNumbered st → Goes structs run locals st st1
   head_goes st h st1 e n =
-      let c = came (with_specifiers false h.specifiers st) (λ z. Some (with_head z h)) st1 e in
+      let c = came (λ (z : Scopes). Some (with_head z h)) (with_specifiers false h.specifiers st) st1 e in
       let m = specifiers_go structs run locals false h.specifiers st c.0 c.1 n in
       goes_is structs run locals st (with_head c.0 h) st1
       (goes_with ⊤ st c.0 (with_head c.0 h) m (λ w t. tt) (name_with ⊤ (declared_name h.declarator) (head_meaning c.0 h) c.0 m.numbered (λ w t u. head_typed c.0 h m.numbered w t))) c.2
@@ -170,7 +170,7 @@ module _ (structs : ℕ → Bool) (run : Run) (locals : LocalTypes) where
   pub parameter_goes : (st : Scopes) (d : DeclarationTree) (st1 : Scopes) → behind_parameters st d ≡ Some st1 → AreNumbered st → Goes structs run locals st st1
   parameter_goes st (assertion a) st1 e h = goes_is structs run locals st st st1 (stays structs st (Typed st) h) e
   parameter_goes st (declaration ss xs) st1 e h =
-      let c = came (with_specifiers false ss st) (λ z. Some (with_parameters (specified_known z ss) (type_word ss) z xs)) st1 e in
+      let c = came (λ (z : Scopes). Some (with_parameters (specified_known z ss) (type_word ss) z xs)) (with_specifiers false ss st) st1 e in
       let m = specifiers_go structs run locals false ss st c.0 c.1 h in
       goes_is structs run locals st (with_parameters (specified_known c.0 ss) (type_word ss) c.0 xs) st1
       (goes_with (IsKnownOf structs (specified_known c.0 ss)) st c.0 (with_parameters (specified_known c.0 ss) (type_word ss) c.0 xs) m

@@ -39,7 +39,8 @@ use Rattle.px_real_functions.specs.Definitions.{value_of}
 use Rattle.px_real_typing.specs.Ranges.{IsTypeOf, IsKnownOf}
 use Rattle.px_real_typing.specs.TypedOperands.{Agrees, IsGiven, ArePartsTyped}
 use Rattle.px_real_typing.specs.TypedScopes.{RunAgrees, IsMeant, AreTyped, AreNumbered}
-use Rattle.px_real_typing.proofs.Choices.{all_both, of_some}
+use Rattle.px_terms.proofs.Recursion.{all_both}
+use Rattle.px_real_typing.proofs.Choices.{of_some}
 use Rattle.px_real_typing.proofs.OperandsTyped.{all_passed}
 use Rattle.px_real_typing.proofs.OperatorsTyped.{profiled}
 use Rattle.px_real_typing.proofs.EffectsTyped.{all_statements, IsAct, statements_of_acts, steps_of_acts, evaluated_typed, initialised_typed, argument_typed, performed_typed, returned_typed}
@@ -206,7 +207,7 @@ module _ (P : TypedProgram) (structs : ℕ → Bool) (ps : List ValueType) (loca
   declared_goes : (loop : Bool) (at : Place) (d : DeclarationTree) (w : Walk) → declared f at d ≡ Some w → AreNumbered at.scopes → Goes ⊤ loop at w
   declared_goes loop at (assertion g) w e n = walk_is loop at (without_statements at) w (here ⊤ loop at [] n (λ ok t. tt)) e
   declared_goes loop at (declaration ss xs) w e n =
-      let c = came (with_specifiers (declares_none xs) ss at.scopes) (λ st. Some (with_declarators f (in_scopes at st) ss (specified_known st ss) xs)) w e in
+      let c = came (λ (st : Scopes). Some (with_declarators f (in_scopes at st) ss (specified_known st ss) xs)) (with_specifiers (declares_none xs) ss at.scopes) w e in
       let m = specifiers_go structs f.run locals (declares_none xs) ss at.scopes c.0 c.1 n in
       let v = with_declarators f (in_scopes at c.0) ss (specified_known c.0 ss) xs in
       walk_is loop at v w

@@ -19,7 +19,8 @@ use Rattle.px_real_values.specs.Calls.{Given, fits, all_parts, arguments, gives,
 use Rattle.px_real_functions.specs.Definitions.{kept_types}
 use Rattle.px_real_typing.specs.Ranges.{IsTypeOf}
 use Rattle.px_real_typing.specs.TypedOperands.{IsSignature, IsCallee, IsBlock, IsPassed, ArePartsTyped, IsOperand, IsGiven}
-use Rattle.px_real_typing.proofs.Choices.{of_test, all_both}
+use Rattle.px_terms.proofs.Recursion.{all_both}
+use Rattle.px_real_typing.proofs.Choices.{of_test}
 use Rattle.px_real_typing.proofs.OperandsTyped.{all_passed, parts_typed, needed_typed, int_typed}
 
 module _ (P : TypedProgram) (locals : LocalTypes) (structs : ℕ → Bool) (env : Environment) where

@@ -1,7 +1,6 @@
 -- What holds of a choice, where it does of each that may be chosen.
-use Rattle.std.proofs.Common.{◌≡◌, Bool, true, false, List, [], ◌∷◌, ◌++◌, Option, Some, None, refl, subst}
+use Rattle.std.proofs.Common.{◌≡◌, Bool, true, false, Option, Some, None, refl, subst}
 use Rattle.std.specs.Prelude.{IfSome, if◌then◌else◌}
-use Rattle.std.specs.List.{AllByRecursion}
 use Rattle.px_expressions.specs.Reading.{or_else}
 
 module _ {A : Type 0} (Q : A → Type 0) where
@@ -21,10 +20,6 @@ module _ {A : Type 0} (Q : A → Type 0) where
   pub if_test : (b : Bool) (x : A) → (b ≡ true → Q x) → IfSome (if b then Some x else None) Q
   if_test true x h = h refl
   if_test false x h = tt
-
-  pub all_both : (xs ys : List A) → AllByRecursion Q xs → AllByRecursion Q ys → AllByRecursion Q (xs ++ ys)
-  all_both [] ys h k = k
-  all_both (x ∷ xs) ys h k = (h.0, all_both xs ys h.1 k)
 
   pub of_some : (o : Option A) (x : A) → o ≡ Some x → IfSome o Q → Q x
   of_some o x is h = subst (λ p. IfSome p Q) is h

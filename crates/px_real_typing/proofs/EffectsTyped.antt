@@ -26,8 +26,8 @@ use Rattle.px_real_values.specs.Values.{valued, given}
 use Rattle.px_real_effects.specs.Targets.{Target, a_place, an_access, away, nowhere, place_of, pointer_of, target}
 use Rattle.px_real_effects.specs.Effects.{evaluated, arithmetic_of, counting, written, free_at, ran, updated, assigned, assigned_with, stepped, freeing, called_by, argument_of, assigned_by, performed, initialised, returned}
 use Rattle.px_real_typing.specs.TypedOperands.{HasFirst, Agrees, IsPassed, ArePartsTyped, IsOperand, IsGiven}
-use Rattle.px_real_typing.proofs.Choices.{all_both}
-use Rattle.px_real_typing.proofs.OperandsTyped.{int_value, fits, passed, all_passed, stop_is, parts_typed, needed_typed, freed_typed}
+use Rattle.px_terms.proofs.Recursion.{all_both}
+use Rattle.px_real_typing.proofs.OperandsTyped.{int_value, passed, all_passed, stop_is, parts_typed, needed_typed, freed_typed}
 use Rattle.px_real_typing.proofs.CallsTyped.{parts_of_all}
 use Rattle.px_real_typing.proofs.ExpressionsTyped.{valued_typed, given_typed}
 
@@ -151,7 +151,7 @@ module _ (P : TypedProgram) (locals : LocalTypes) (structs : ℕ → Bool) (env 
   stepped_typed : (s : Step) (site : Site) (a : Operand) → Good a → Acts (stepped env s site a)
   stepped_typed s site a h =
       written_typed (updated env (step_text s) site (Some (counting s)) (T.constant (pos 1)) []) [] (target env (step_text s) site a) tt (target_typed (step_text s) site a h)
-      (λ t p hp. updated_typed (step_text s) site (Some (counting s)) (T.constant (pos 1)) [] t p (refl, fits 1 (omega arith)) tt hp)
+      (λ t p hp. updated_typed (step_text s) site (Some (counting s)) (T.constant (pos 1)) [] t p (refl, record { sfits = omega arith }) tt hp)
 
   assigned_by_typed : (o : Option Operator) (site : Site) (a : Operand) (b : Given) → Good a → Good b.operand → Acts (assigned_by env o site a b)
   assigned_by_typed None site a b h k = assigned_typed site a b h k

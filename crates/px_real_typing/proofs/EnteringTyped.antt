@@ -31,7 +31,7 @@ use Rattle.px_real_scopes.specs.Behind.{with_name}
 use Rattle.px_real_bodies.specs.Environments.{Run}
 use Rattle.px_real_typing.specs.Ranges.{IsTypeOf, IsKnownOf}
 use Rattle.px_real_typing.specs.TypedScopes.{IsKnownMember, IsMeant, IsBinding, AreTyped, IsBelow, AreNumbered}
-use Rattle.px_real_typing.proofs.Choices.{all_both}
+use Rattle.px_terms.proofs.Recursion.{all_both}
 use Rattle.px_real_typing.proofs.OperatorsTyped.{profiled}
 use Rattle.px_real_typing.proofs.ShapesTyped.{seen_in, declared_known_in}
 use Rattle.px_real_typing.proofs.ScopeLemmas.{tag_number, none_beyond, all_below, definitions_below, all_own, specified_typed, AreMembers, members_in}
@@ -54,8 +54,8 @@ pub record Moves (structs : ℕ → Bool) (old new : Scopes) (T U : Type 0) : Ty
   pub numbered : AreNumbered new
   pub typed : Within structs new → T → U
 
-pub came : {A B : Type 0} (o : Option A) (f : A → Option B) (b : B) → or_else o f None ≡ Some b → (a : A) × (o ≡ Some a) × (f a ≡ Some b)
-came (Some a) f b h = (a, refl, h)
+pub came : {A B : Type 0} (f : A → Option B) (o : Option A) (b : B) → or_else o f None ≡ Some b → (a : A) × (o ≡ Some a) × (f a ≡ Some b)
+came f (Some a) b h = (a, refl, h)
 came None f b h = absurd cc
 
 module _ (structs : ℕ → Bool) where
@@ -73,8 +73,8 @@ module _ (structs : ℕ → Bool) where
       → ((st : S) (x : A) (st1 : S) → next st x ≡ Some st1 → AreNumbered (scopes st) → Moves structs (scopes st) (scopes st1) (T st) (T st1))
       → (xs : List A) (st st1 : S) → in_turn next st xs ≡ Some st1 → AreNumbered (scopes st) → Moves structs (scopes st) (scopes st1) (T st) (T st1)
   turns scopes T next one [] st st1 e h = subst (λ z. Moves structs (scopes st) (scopes z) (T st) (T z)) (same_Some st st1 e) (stays (scopes st) (T st) h)
-  turns scopes T next one (x ∷ xs) st st1 e h =
-      let c = came (next st x) (λ z. in_turn next z xs) st1 e in
+  turns {S = S} scopes T next one (x ∷ xs) st st1 e h =
+      let c = came (λ (z : S). in_turn next z xs) (next st x) st1 e in
       let m = one st x c.0 c.1 h in
       moves_on m (turns scopes T next one xs c.0 st1 c.2 m.numbered)
 
@@ -127,16 +127,13 @@ module _ (structs : ℕ → Bool) (run : Run) (locals : LocalTypes) where
   enumerates : (tag : Option (List ℕ)) (held : Option (List Lexeme)) (st st1 : Scopes) → with_enumeration tag held st ≡ Some st1 → AreNumbered st → Goes st st1
   enumerates tag None st st1 e h = goes_is st st st1 (stays structs st (Typed st) h) e
   enumerates tag (Some held) st st1 e h =
-      let c = came (as_whole (enumerators_at held)) (λ es. Some (with_enumerated tag es st)) st1 e in goes_is st (with_enumerated tag c.0 st) st1 (enumerated tag c.0 st h) c.2
+      let c = came (λ (es : List EnumeratorTree). Some (with_enumerated tag es st)) (as_whole (enumerators_at held)) st1 e in goes_is st (with_enumerated tag c.0 st) st1 (enumerated tag c.0 st h) c.2
 
   -- ---- which struct or union is meant
 
-  one_more : (rs : List Bool) (b : Bool) → length (rs ++ b ∷ []) ≡ length rs + 1
-  one_more rs b = length-append rs (b ∷ [])
-
   record_goes : (is_struct : Bool) (tag : Option (List ℕ)) (site : Site) (st : Scopes) → AreNumbered st → Goes st (new_record is_struct tag site st)
   record_goes is_struct (Some tag) site st h =
-      let l = one_more st.records is_struct in
+      let l = length-append st.records (is_struct ∷ []) in
       let more : length st.records ≤ length (st.records ++ is_struct ∷ []) = omega (arith, l) in
       record {
         follows = record { block = refl; records = more; members = λ n ms e. e };
@@ -144,7 +141,7 @@ module _ (structs : ℕ → Bool) (run : Run) (locals : LocalTypes) where
         typed = λ w t. record { bindings = (tt, t.bindings); definitions = t.definitions };
       }
   record_goes is_struct None site st h =
-      let l = one_more st.records is_struct in
+      let l = length-append st.records (is_struct ∷ []) in
       let more : length st.records ≤ length (st.records ++ is_struct ∷ []) = omega (arith, l) in
       record {
         follows = record { block = refl; records = more; members = λ n ms e. e };
@@ -172,7 +169,7 @@ module _ (structs : ℕ → Bool) (run : Run) (locals : LocalTypes) where
       open_found st (number_in (tag_of (own_block st.bindings) tag)) n (tag_number (length st.records) tag (own_block st.bindings) (all_own (IsBelow (length st.records)) st.bindings h.bindings)) e
 
   new_open : (is_struct : Bool) (tag : Option (List ℕ)) (site : Site) (st : Scopes) → AreNumbered st → IsOpen (length st.records, new_record is_struct tag site st)
-  new_open is_struct tag site st h = (none_beyond (length st.records) (length st.records) st.definitions (omega arith) h.definitions, let l = one_more st.records is_struct in omega (arith, l))
+  new_open is_struct tag site st h = (none_beyond (length st.records) (length st.records) st.definitions (omega arith) h.definitions, let l = length-append st.records (is_struct ∷ []) in omega (arith, l))
 
   record Meant (defines : Bool) (st : Scopes) (x : ℕ × Scopes) : Type 0 where
     goes : Goes st x.1
@@ -254,7 +251,7 @@ module _ (structs : ℕ → Bool) (run : Run) (locals : LocalTypes) where
       → Moves structs x.0 y.0 (So x) (So y)
   line_goes deeper g cells x (assertion a) y e h = subst (λ z. Moves structs x.0 z.0 (So x) (So z)) (same_Some x y e) (stays structs x.0 (So x) h)
   line_goes deeper g cells x (declaration ss xs) y e h =
-      let c = came (in_turn deeper x.0 ss) (λ st. Some (st, with_members cells st ss x.1 xs)) y e in
+      let c = came (λ (st : Scopes). Some (st, with_members cells st ss x.1 xs)) (in_turn deeper x.0 ss) y e in
       let m = turns structs (λ (z : Scopes). z) (AreTyped structs run locals) deeper g ss x.0 c.0 c.1 h in
       subst (λ z. Moves structs x.0 z.0 (So x) (So z)) (same_Some (c.0, with_members cells c.0 ss x.1 xs) y c.2)
       (record { follows = m.follows; numbered = m.numbered; typed = λ w t. (let u = m.typed w t.0 in (u, members_typed cells c.0 ss x.1 xs m.numbered w u t.1)) })
@@ -273,7 +270,7 @@ module _ (structs : ℕ → Bool) (run : Run) (locals : LocalTypes) where
 
   defined_goes : (deeper : Entering) → AllGo deeper → (n : ℕ) (st : Scopes) (ds : List DeclarationTree) (st1 : Scopes) → IsOpen (n, st) → defined_by deeper n st ds ≡ Some st1 → AreNumbered st → Goes st st1
   defined_goes deeper g n st ds st1 o e h =
-      let c = came (in_turn (with_line deeper (is_seen st n)) (st, []) ds) (λ x. Some (with_definition n x)) st1 e in
+      let c = came (λ (x : Scopes × List NamedTree). Some (with_definition n x)) (in_turn (with_line deeper (is_seen st n)) (st, []) ds) st1 e in
       goes_is st (with_definition n c.0) st1
       (definition_goes n st c.0 o (turns structs (λ (x : Scopes × List NamedTree). x.0) So (with_line deeper (is_seen st n)) (line_goes deeper g (is_seen st n)) ds (st, []) c.0 c.1 h)) c.2
 
@@ -281,7 +278,7 @@ module _ (structs : ℕ → Bool) (run : Run) (locals : LocalTypes) where
   held_goes deeper g None x st1 o e h = goes_is x.1 x.1 st1 (stays structs x.1 (Typed x.1) h) e
   held_goes None g (Some held) (n, st) st1 o e h = absurd cc
   held_goes (Some deeper) g (Some held) (n, st) st1 o e h =
-      let c = came (as_whole (members_at (are_types st.bindings) nesting_limit held)) (defined_by deeper n st) st1 e in defined_goes deeper g n st c.0 st1 (o refl) c.2 h
+      let c = came (defined_by deeper n st) (as_whole (members_at (are_types st.bindings) nesting_limit held)) st1 e in defined_goes deeper g n st c.0 st1 (o refl) c.2 h
 
   tagged_goes : (deeper : Option Entering) → IfGo deeper → (alone : Bool) (r : Role) (word : List ℕ) (site : Site) (tag : Option (List ℕ)) (held : Option (List Lexeme)) (st st1 : Scopes)
       → with_tagged deeper alone r word site tag held st ≡ Some st1 → AreNumbered st → Goes st st1

@@ -23,7 +23,8 @@ use Rattle.px_real_values.specs.Values.{is_zero, valued_forms, if_defined, block
 use Rattle.px_real_typing.specs.Ranges.{IsTypeOf, IsKnownOf}
 use Rattle.px_real_typing.specs.TypedOperands.{IsBlock, IsMeaning, Agrees, IsPassed, ArePartsTyped, IsOperand, IsGiven}
 use Rattle.px_real_typing.specs.Laws.{ExpressionsKeepTyping}
-use Rattle.px_real_typing.proofs.Choices.{of_test, all_both}
+use Rattle.px_terms.proofs.Recursion.{all_both}
+use Rattle.px_real_typing.proofs.Choices.{of_test}
 use Rattle.px_real_typing.proofs.RangeLemmas as Ranges
 use Rattle.px_real_typing.proofs.RangeLemmas.{struct_is, value_unless, element_of}
 use Rattle.px_real_typing.proofs.OperandsTyped.{parts_typed, pointer_parts_typed, known_typed, unless_typed, counted_typed}

@@ -69,9 +69,9 @@ module _ (structs : ℕ → Bool) (run : Run) (st : Scopes) (typed : AreTyped st
 
   pub heading_typed : (h : HeadTree) (x : HeadingTree) → heading st h ≡ Some x → IsFunction structs x.function
   heading_typed h x e =
-      let c = came (function_named st h) (heading_by st h) x e in
-      let n = came (declared_name h.declarator) (λ name. function_meant (meaning_of st.bindings name)) c.0 c.1 in
-      let l = came (listed_in st h) (headed h c.0) x c.2 in
+      let c = came (heading_by st h) (function_named st h) x e in
+      let n = came (λ (name : List ℕ). function_meant (meaning_of st.bindings name)) (declared_name h.declarator) c.0 c.1 in
+      let l = came (headed h c.0) (listed_in st h) x c.2 in
       subst (IsFunction structs) (headed_is h c.0 l.0 x l.2) (meant_typed (meaning_of st.bindings n.0) c.0 (meaning_holds structs run no_locals st.bindings n.0 typed.bindings) n.2)
 
 -- ---- what the body sees
@@ -158,7 +158,7 @@ module _ (P : TypedProgram) (structs : ℕ → Bool) (run : Run) (is_addressed :
       let d : With structs run locals K (entered st) middle = record { follows = c.follows; numbered = c.numbered; typed = λ w u. (c.typed w u.0, u.1) } in
       moves_on structs d
       (locals_go structs run locals K is_addressed 0 (parameter_names x.parameters) x.function.parameters (with_declarations (declared_in h x.parameters) (with_ints (old_names x.parameters) (entered st))) c.numbered (λ k. k)
-      (λ i v e. subst (λ j. locals j ≡ Some v) (let a : i ≡ 0 + i = omega arith in a) (got_before ps w.after.locals i v e)))
+      (λ i v e. subst (λ j. locals j ≡ Some v) (let a : i ≡ 0 + i = omega arith in a) (got_before ps w.after.locals (ps ++ w.after.locals) i v refl e)))
 
   abbrev Body : Type 0 → Place → Place → Type 0 → Type 0
   Body X a b U = Walks P structs ps locals f X a b U

@@ -17,7 +17,7 @@ use Rattle.px_real_bodies.specs.Places.{Function}
 use Rattle.px_real_bodies.specs.Phrases.{expression_in, first_place}
 use Rattle.px_real_bodies.specs.Values.{separated, without_designators, listed, item_parts, unread_at, parts_of, decided, decided_if, initialiser_parts}
 use Rattle.px_real_typing.specs.TypedOperands.{Agrees, IsPassed, ArePartsTyped}
-use Rattle.px_real_typing.proofs.Choices.{all_both}
+use Rattle.px_terms.proofs.Recursion.{all_both}
 use Rattle.px_real_typing.proofs.OperandsTyped.{parts_typed, deciding_typed}
 use Rattle.px_real_typing.proofs.ExpressionsTyped.{valued_typed}
 

@@ -1,5 +1,5 @@
 -- What is made of an operand keeps the rules where the operand does.
-use Rattle.std.proofs.Common.{arith, ◌≡◌, ◌∙◌, ◌-◌, ◌<◌, ℕ, zero, suc, pos, Bool, true, false, List, [], ◌∷◌, ◌++◌, nat_lt, Option, Some, None, refl, sym, ap, subst, FitsSigned, w32}
+use Rattle.std.proofs.Common.{arith, ◌≡◌, ◌∙◌, ◌-◌, ◌<◌, ℕ, zero, suc, pos, Bool, true, false, List, [], ◌∷◌, ◌++◌, nat_lt, Option, Some, None, refl, sym, ap, subst}
 use Rattle.std.specs.Prelude.{IfSome, if◌then◌else◌}
 use Rattle.std.proofs.lemmas.Bool.{ltb-true}
 use Rattle.px_base.specs.declared.trace.Site.{Site}
@@ -40,9 +40,6 @@ module _ (env : Environment) where
 
   pub int_value : (t : ProfileType) → is_int t ≡ true → value_type env t ≡ V.Int
   int_value t e = ap (value_type env) (int_type t e)
-
-pub fits : (n : ℕ) → n < 2147483648 → FitsSigned w32 (pos n)
-fits n h = record { sfits = h }
 
 module _ (P : TypedProgram) (locals : LocalTypes) (structs : ℕ → Bool) (env : Environment) where
   abbrev Is : ValueType → Expression → Type 0
@@ -147,7 +144,7 @@ module _ (P : TypedProgram) (locals : LocalTypes) (structs : ℕ → Bool) (env 
   -- ---- where a value is needed
 
   zero_is : Is V.Int (T.constant (pos 0))
-  zero_is = (refl, fits 0 (omega arith))
+  zero_is = (refl, record { sfits = omega arith })
 
   null_is : (t : ProfileType) → is_pointer t ≡ true → Is (value_type env t) T.null
   null_is t e = (type_id env (record { base = t.base; stars = t.stars - 1 }), pointer_value env t e)
@@ -258,4 +255,4 @@ module _ (P : TypedProgram) (locals : LocalTypes) (structs : ℕ → Bool) (env 
   counted_typed zero word site = tt
   counted_typed (suc n) word site =
       of_test Good (nat_lt (suc n) 2147483648) (of_type int site (T.constant (pos (suc n)))) (outside unknown [] word site)
-      (λ is. int_typed site (T.constant (pos (suc n))) (refl, fits (suc n) (ltb-true (suc n) 2147483648 is))) (λ is. (tt, tt))
+      (λ is. int_typed site (T.constant (pos (suc n))) (refl, record { sfits = ltb-true (suc n) 2147483648 is })) (λ is. (tt, tt))

@@ -35,7 +35,8 @@ use Rattle.px_real_values.specs.Operands.{Operand, of_type, a_zero, a_null, a_te
 use Rattle.px_real_values.specs.Operators.{operator_text, common_type, found_type, struct_behind, outside_of, stopped_at, typed_both, computed, divided, compared, equated, valued_binary, negated, opposed, pointed_to, object_of, pointed_by, indirected, taking, prefixed, member_at, member_in, known_member, behind, arrowed, dotted, cast_word, cast_to, cast_away, cast_as}
 use Rattle.px_real_typing.specs.Ranges.{IsTypeOf, IsShapeOf, IsKnownOf}
 use Rattle.px_real_typing.specs.TypedOperands.{IsMember, Agrees, IsPassed, ArePartsTyped, IsOperand}
-use Rattle.px_real_typing.proofs.Choices.{of_test, of_option, all_both, of_some}
+use Rattle.px_terms.proofs.Recursion.{all_both}
+use Rattle.px_real_typing.proofs.Choices.{of_test, of_option, of_some}
 use Rattle.px_real_typing.proofs.RangeLemmas.{same_types, struct_is, pointer_is, pointee_of, struct_of, element_of}
 use Rattle.px_real_typing.proofs.OperandsTyped.{pointing, pointer_value, plain_value, of_at, passed, truth_is, parts_typed, pointer_parts_typed, typed_as_typed, deciding_typed, known_typed, unless_typed, int_typed}
 

@@ -59,16 +59,13 @@ value_unless t = by (nat_eq t.stars 0) refl t.base
 
 -- ---- pointers
 
-one_less : (n : ℕ) → n + 1 - 1 ≡ n
-one_less n = omega arith
-
 one_star : (n : ℕ) → nat_lt 0 (n + 1) ≡ true
 one_star n = lt-ltb 0 (n + 1) (omega arith)
 
 pub pointer_is : (t : ProfileType) → pointee (pointer_to t) ≡ Some t
 pointer_is t =
     ap (λ b. if b then Some (record { base = t.base; stars = t.stars + 1 - 1 }) else None) (one_star t.stars)
-    ∙ ap (λ n. Some (record { base = t.base; stars = n })) (one_less t.stars)
+    ∙ ap (λ n. Some (record { base = t.base; stars = n })) (let b : t.stars + 1 - 1 ≡ t.stars = omega arith in b)
 
 module _ (structs : ℕ → Bool) where
   pub pointee_of : (t u : ProfileType) → pointee t ≡ Some u → IsTypeOf structs t → IsTypeOf structs u

@@ -22,14 +22,21 @@ use Rattle.px_real_typing.proofs.EnvironmentTyped.{value_is, environment_agrees}
 
 -- ---- lists
 
-pub got_before : {A : Type 0} (xs ys : List A) (n : ℕ) (a : A) → slice_get xs n ≡ Some a → slice_get (xs ++ ys) n ≡ Some a
-got_before [] ys n a h = absurd (none-some a h)
-got_before (x ∷ xs) ys zero a h = h
-got_before (x ∷ xs) ys (suc n) a h = got_before xs ys n a h
+-- what stands in a list stands in one that goes on from it
+pub got_before : {A : Type 0} (xs ys zs : List A) (n : ℕ) (a : A) → zs ≡ xs ++ ys → slice_get xs n ≡ Some a → slice_get zs n ≡ Some a
+got_before {A = A} xs ys zs n a e h = ap (λ l. slice_get l n) e ∙ by xs n h
+  where
+    by : (xs : List A) (n : ℕ) → slice_get xs n ≡ Some a → slice_get (xs ++ ys) n ≡ Some a
+    by [] n h = absurd (none-some a h)
+    by (x ∷ xs) zero h = h
+    by (x ∷ xs) (suc n) h = by xs n h
 
-pub got_last : {A : Type 0} (xs : List A) (a : A) → slice_get (xs ++ a ∷ []) (length xs) ≡ Some a
-got_last [] a = refl
-got_last (x ∷ xs) a = got_last xs a
+pub got_last : {A : Type 0} (xs : List A) (a : A) (n : ℕ) → n ≡ length xs → slice_get (xs ++ a ∷ []) n ≡ Some a
+got_last {A = A} xs a n e = ap (slice_get (xs ++ a ∷ [])) e ∙ by xs
+  where
+    by : (xs : List A) → slice_get (xs ++ a ∷ []) (length xs) ≡ Some a
+    by [] = refl
+    by (x ∷ xs) = by xs
 
 -- a place, where these are the types of the parameters
 pub record IsPlaceTyped (structs : ℕ → Bool) (ps : List ValueType) (locals : LocalTypes) (f : Function) (at : Place) : Type 0 where
@@ -61,7 +68,7 @@ module _ (P : TypedProgram) (structs : ℕ → Bool) (ps : List ValueType) (loca
   pub ends_before : (a b : Place) → Follows a.scopes b.scopes → (xs : List ValueType) × (b.locals ≡ a.locals ++ xs) → Known b → Known a
   ends_before a b h l e = record {
     covers = record { within = within_before structs a.scopes b.scopes h e.covers.within; members = λ n ms is. e.covers.members n ms (h.members n ms is) };
-    locals_are = λ n t is. e.locals_are n t (subst (λ zs. slice_get zs n ≡ Some t) (append_assoc ps a.locals l.0 ∙ ap (λ zs. ps ++ zs) (sym l.1)) (got_before (ps ++ a.locals) l.0 n t is));
+    locals_are = λ n t is. e.locals_are n t (got_before (ps ++ a.locals) l.0 (ps ++ b.locals) n t (ap (λ zs. ps ++ zs) l.1 ∙ sym (append_assoc ps a.locals l.0)) is);
   }
 
   pub seen_at : (at : Place) → AreNumbered at.scopes → Known at → Good at → Agrees P locals structs (environment f.run at.scopes)
@@ -147,7 +154,7 @@ module _ (P : TypedProgram) (structs : ℕ → Bool) (ps : List ValueType) (loca
         more = (v ∷ [], refl);
         numbered = record { bindings = (tt, n.bindings); definitions = n.definitions };
         typed = λ e p k. (
-            let got = subst (λ m. slice_get (ps ++ (at.locals ++ v ∷ [])) m ≡ Some v) (sym p.next) (subst (λ zs. slice_get zs (length (ps ++ at.locals)) ≡ Some v) (append_assoc ps at.locals (v ∷ [])) (got_last (ps ++ at.locals) v)) in
+            let got = subst (λ zs. slice_get zs at.next ≡ Some v) (append_assoc ps at.locals (v ∷ [])) (got_last (ps ++ at.locals) v at.next p.next) in
             let is = e.locals_are at.next v got ∙ ap Some (value_is f.run at.scopes t) in
             (record { scopes = record { bindings = ((ok k, is), p.scopes.bindings); definitions = p.scopes.definitions }; next = next_is at.locals v at.next p.next }, is));
       }
