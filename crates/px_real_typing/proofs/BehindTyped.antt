@@ -112,7 +112,9 @@ module _ (structs : ℕ → Bool) (run : Run) (locals : LocalTypes) where
 
   -- where it holds by then
   pub goes_with : (K : Type 0) (a b c : Scopes) → Goes structs run locals a b → (Within structs b → Typed b → K) → With K b c → Goes structs run locals a c
-  goes_with K a b c h k g = moves_on structs h (record { follows = g.follows; numbered = g.numbered; typed = λ w t. (g.typed w (t, k (within_before structs b c g.follows w) t)).0 })
+  goes_with K a b c h k g =
+      let m : Goes structs run locals b c = record { follows = g.follows; numbered = g.numbered; typed = λ w t. (g.typed w (t, k (within_before structs b c g.follows w) t)).0 } in
+      moves_on structs h m
 
   -- ---- a declaration
 

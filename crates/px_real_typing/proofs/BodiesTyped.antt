@@ -292,7 +292,7 @@ module _ (P : TypedProgram) (structs : ℕ → Bool) (ps : List ValueType) (loca
     done_goes loop (choose site e s) at n =
         let w = done f loop s (within at) in
         walks_as P structs ps locals f known
-        (walks_also P structs ps locals f known n (scoped P structs ps locals f known at w.after (done_goes loop s (within at) (enters P structs ps locals f known at n)))
+        (walks_also P structs ps locals f known (scoped P structs ps locals f known at w.after (done_goes loop s (within at) (enters P structs ps locals f known at n))) n
         (λ ok. decided_typed P structs locals f at.scopes ok site e))
         (λ u. ((u.0, whole loop w.trees u.1, tt), tt))
     done_goes loop (choose_else site e s t) at n =
@@ -301,13 +301,13 @@ module _ (P : TypedProgram) (structs : ℕ → Bool) (ps : List ValueType) (loca
         let v = done f loop t (within middle) in
         let a = scoped P structs ps locals f known at w.after (done_goes loop s (within at) (enters P structs ps locals f known at n)) in
         let b = scoped P structs ps locals f known middle v.after (done_goes loop t (within middle) (enters P structs ps locals f known middle a.numbered)) in
-        walks_as P structs ps locals f known (walks_also P structs ps locals f known n (walks_on P structs ps locals f known a b) (λ ok. decided_typed P structs locals f at.scopes ok site e))
+        walks_as P structs ps locals f known (walks_also P structs ps locals f known (walks_on P structs ps locals f known a b) n (λ ok. decided_typed P structs locals f at.scopes ok site e))
         (λ u. ((u.0, whole loop w.trees u.1.0, whole loop v.trees u.1.1), tt))
     done_goes loop (switch site e s) at n = stop_there ⊤ loop (codes "switch") site (parts_of f at.scopes site e) at n (λ ok. held_parts P structs locals f at.scopes ok site e)
     done_goes loop (while_loop site e s) at n =
         let w = done f true s (within at) in
         walks_as P structs ps locals f known
-        (walks_also P structs ps locals f known n (scoped P structs ps locals f known at w.after (done_goes true s (within at) (enters P structs ps locals f known at n)))
+        (walks_also P structs ps locals f known (scoped P structs ps locals f known at w.after (done_goes true s (within at) (enters P structs ps locals f known at n))) n
         (λ ok. decided_typed P structs locals f at.scopes ok site e))
         (λ u. ((u.0, whole true w.trees u.1, tt, tt), tt))
     done_goes loop (do_loop site s e) at n =
@@ -317,7 +317,7 @@ module _ (P : TypedProgram) (structs : ℕ → Bool) (ps : List ValueType) (loca
         let w = done f true s (within u.after) in
         let a = phrased_if_goes loop site first (within at) (enters P structs ps locals f known at n) in
         let b = scoped P structs ps locals f known u.after w.after (done_goes true s (within u.after) (enters P structs ps locals f known u.after a.numbered)) in
-        let c = walks_also P structs ps locals f known a.numbered b (λ ok. for_parts loop site e step u.after ok) in
+        let c = walks_also P structs ps locals f known b a.numbered (λ ok. for_parts loop site e step u.after ok) in
         walks_as P structs ps locals f known (scoped P structs ps locals f known at (outside_of_it w.after) (walks_on P structs ps locals f known a c))
         (λ x. (for_typed loop site e step u w x.0 x.1.0 x.1.1, tt))
     done_goes loop (goto site held) at n = stop_there ⊤ loop (codes "goto") site [] at n (λ ok. tt)

@@ -170,7 +170,8 @@ module _ (P : TypedProgram) (structs : ℕ → Bool) (run : Run) (is_addressed :
   body_walks =
       let a = scopes_walk P structs ps locals f known_run K outer (in_body is_addressed st h x) parameters_move in
       let b = all_go P structs ps locals f known_run false (statements_of ss) (start is_addressed st h x) a.numbered in
-      walks_on P structs ps locals f known_run a (record { follows = b.follows; more = b.more; numbered = b.numbered; typed = λ e p k. b.typed e p tt })
+      let c : Body K (start is_addressed st h x) w.after Statements = record { follows = b.follows; more = b.more; numbered = b.numbered; typed = λ e p k. b.typed e p tt } in
+      walks_on P structs ps locals f known_run a c
 
   body_typed : heading st h ≡ Some x → AreTyped structs run no_locals st → Covers P structs run w.after.scopes → IsPlaceTyped structs ps locals f w.after × (⊤ × Statements)
   body_typed e typed covers = body_walks.typed (record { covers = covers; locals_are = λ n t is. is })

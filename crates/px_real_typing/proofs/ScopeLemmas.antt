@@ -45,7 +45,7 @@ module _ (count : ℕ) where
   tag_below word (of_place site n) h = tt
 
   place_below : (site : Site) (b : BindingTree) → IsBelow count b → IfSome (says_place site b) (λ n. n < count)
-  place_below site (of_place place n) h = if_said (λ n. n < count) (same_place site place) n h
+  place_below site (of_place place n) h = if_said (λ (n : ℕ). n < count) (same_place site place) n h
   place_below site begins_block h = tt
   place_below site (of_name name m) h = tt
   place_below site (of_tag tag t) h = tt
@@ -59,7 +59,7 @@ module _ (count : ℕ) where
   tag_number tag bs h = number_of_tag (tag_of bs tag) (first_holds (IsBelow count) (IsTagBelow count) (says_tag tag) (tag_below tag) bs h)
 
   pub place_number : (site : Site) (bs : List BindingTree) → AllByRecursion (IsBelow count) bs → IfSome (placed bs site) (λ n. n < count)
-  place_number site bs h = first_holds (IsBelow count) (λ n. n < count) (says_place site) (place_below site) bs h
+  place_number site bs h = first_holds (IsBelow count) (λ (n : ℕ). n < count) (says_place site) (place_below site) bs h
 
   pub number_below : (bs : List BindingTree) (tag : Option (List ℕ)) (site : Site) → AllByRecursion (IsBelow count) bs → IfSome (number_of bs tag site) (λ n. n < count)
   number_below bs (Some tag) site h = tag_number tag bs h

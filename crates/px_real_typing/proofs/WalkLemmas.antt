@@ -98,8 +98,8 @@ module _ (P : TypedProgram) (structs : ℕ → Bool) (ps : List ValueType) (loca
   walks_as h on = record { follows = h.follows; more = h.more; numbered = h.numbered; typed = λ e p t. (let x = h.typed e p t in (x.0, on x.1)) }
 
   -- with what is seen where it begins, and where it ends
-  pub walks_also : {T U V : Type 0} {a b : Place} → AreNumbered a.scopes → Walks P structs ps locals f T a b U → (Agrees P locals structs (environment f.run a.scopes) → V) → Walks P structs ps locals f T a b (V × U)
-  walks_also {a = a} {b = b} n h on = record {
+  pub walks_also : {T U V : Type 0} {a b : Place} → Walks P structs ps locals f T a b U → AreNumbered a.scopes → (Agrees P locals structs (environment f.run a.scopes) → V) → Walks P structs ps locals f T a b (V × U)
+  walks_also {a = a} {b = b} h n on = record {
     follows = h.follows;
     more = h.more;
     numbered = h.numbered;
