@@ -26,17 +26,13 @@ use Rattle.px_real_typing.specs.TypedScopes.{IsFunction, IsMeant, AreTyped, AreN
 use Rattle.px_real_typing.proofs.Choices.{of_test}
 use Rattle.px_real_typing.proofs.OperatorsTyped.{profiled}
 use Rattle.px_real_typing.proofs.ShapesTyped.{AreIn, specified_in, declared_in, parameter_in, gives_in, seen_in, declared_known_in, parameter_known_in, parameter_type}
-use Rattle.px_real_typing.proofs.ScopeLemmas.{meanings_in, specified_typed, if_said}
+use Rattle.px_real_typing.proofs.ScopeLemmas.{said_or, meanings_in, specified_typed, if_said}
 use Rattle.px_real_typing.proofs.EnteringTyped.{Within, Moves, came, stays, within_before, moves_on, Goes, goes_is, specifiers_go}
 
 -- what the first says holds, whatever is said
 first_any : {A C : Type 0} (R : C → Type 0) (says : A → Option C) → ((a : A) → IfSome (says a) R) → (xs : List A) → IfSome (first_said says xs) R
 first_any R says on [] = tt
-first_any {C = C} R says on (x ∷ xs) = by (says x) (on x)
-  where
-    by : (o : Option C) → IfSome o R → IfSome (or_else o (λ b. Some b) (first_said says xs)) R
-    by (Some b) k = k
-    by None k = first_any R says on xs
+first_any R says on (x ∷ xs) = said_or R (says x) (first_said says xs) (on x) (first_any R says on xs)
 
 module _ (structs : ℕ → Bool) where
   abbrev IsTypeIf : Option ProfileType → Type 0

@@ -324,11 +324,11 @@ module _ (P : TypedProgram) (structs : ℕ → Bool) (ps : List ValueType) (loca
     done_goes loop (break site) at n = break_goes loop site at n
     done_goes loop (continue site) at n = continue_goes loop site at n
     done_goes loop (return site held) at n = given_goes loop site held at n
-    done_goes loop (labelled ls s) at n = by (label_stop ls)
+    done_goes loop (labelled ls s) at n = by (label_stop ls) (done_goes loop s at n)
       where
-        by : (o : Option (List ℕ × Site)) → Goes ⊤ loop at (or_else o (λ x. stopping f x.0 x.1 [] at) (done f loop s at))
-        by (Some x) = stop_there ⊤ loop x.0 x.1 [] at n (λ ok. tt)
-        by None = done_goes loop s at n
+        by : (o : Option (List ℕ × Site)) → Goes ⊤ loop at (done f loop s at) → Goes ⊤ loop at (or_else o (λ x. stopping f x.0 x.1 [] at) (done f loop s at))
+        by (Some x) h = stop_there ⊤ loop x.0 x.1 [] at n (λ ok. tt)
+        by None h = h
     done_goes loop (unread ts) at n = unread_goes ⊤ loop (first_place no_place ts) ts at n
 
     pub all_go : (loop : Bool) (ss : StatementTrees) (at : Place) → AreNumbered at.scopes → Goes ⊤ loop at (all_done f loop ss at)

@@ -57,8 +57,8 @@ module _ (P : TypedProgram) (structs : ℕ → Bool) (locals : LocalTypes) (f : 
 
   pub initialiser_typed : (n : ℕ) (site : Site) (ts : List Lexeme) → Parts (initialiser_parts f st n site ts)
   initialiser_typed zero site ts = held_parts site ts
-  initialiser_typed (suc n) site ts = by (listed ts)
+  initialiser_typed (suc n) site ts = by (listed ts) (λ us. initialiser_typed n site us)
     where
-      by : (o : Option (List Lexeme)) → Parts (or_else o (λ between. item_parts (initialiser_parts f st n site) (separated 0 between)) (parts_of f st site ts))
-      by (Some between) = items_typed (initialiser_parts f st n site) (initialiser_typed n site) (separated 0 between)
-      by None = held_parts site ts
+      by : (o : Option (List Lexeme)) → ((us : List Lexeme) → Parts (initialiser_parts f st n site us)) → Parts (or_else o (λ between. item_parts (initialiser_parts f st n site) (separated 0 between)) (parts_of f st site ts))
+      by (Some between) on = items_typed (initialiser_parts f st n site) on (separated 0 between)
+      by None on = held_parts site ts

@@ -23,13 +23,13 @@ use Rattle.px_real_typing.proofs.ShapesTyped.{AreIn, specified_in, seen_in, shap
 
 -- ---- what the first says holds, where each would hold that is said
 
+pub said_or : {C : Type 0} (R : C → Type 0) (o p : Option C) → IfSome o R → IfSome p R → IfSome (or_else o (λ b. Some b) p) R
+said_or R (Some b) p h k = h
+said_or R None p h k = k
+
 pub first_holds : {A C : Type 0} (Q : A → Type 0) (R : C → Type 0) (says : A → Option C) → ((a : A) → Q a → IfSome (says a) R) → (xs : List A) → AllByRecursion Q xs → IfSome (first_said says xs) R
 first_holds Q R says on [] h = tt
-first_holds {C = C} Q R says on (x ∷ xs) h = by (says x) (on x h.0)
-  where
-    by : (o : Option C) → IfSome o R → IfSome (or_else o (λ b. Some b) (first_said says xs)) R
-    by (Some b) k = k
-    by None k = first_holds Q R says on xs h.1
+first_holds Q R says on (x ∷ xs) h = said_or R (says x) (first_said says xs) (on x h.0) (first_holds Q R says on xs h.1)
 
 pub if_said : {C : Type 0} (R : C → Type 0) (b : Bool) (x : C) → R x → IfSome (if b then Some x else None) R
 if_said R true x h = h
@@ -68,11 +68,11 @@ module _ (count : ℕ) where
   -- one that is beyond isn't defined
   pub none_beyond : (n : ℕ) (ds : List DefinitionTree) → count ≤ n → AllByRecursion (IsDefinedBelow count) ds → first_said (says_members n) ds ≡ None
   none_beyond n [] l h = refl
-  none_beyond n (d ∷ ds) l h = by (nat_eq d.number n) refl
+  none_beyond n (d ∷ ds) l h = by (nat_eq d.number n) refl (none_beyond n ds l h.1)
     where
-      by : (b : Bool) → nat_eq d.number n ≡ b → or_else (if b then Some d.members else None) (λ ms. Some ms) (first_said (says_members n) ds) ≡ None
-      by true is = let e = eqb-true d.number n is in let k : d.number < count = h.0 in absurd (let f : ⊥ = omega (arith, e, k, l) in f)
-      by false is = none_beyond n ds l h.1
+      by : (b : Bool) → nat_eq d.number n ≡ b → first_said (says_members n) ds ≡ None → or_else (if b then Some d.members else None) (λ ms. Some ms) (first_said (says_members n) ds) ≡ None
+      by true is k = let e = eqb-true d.number n is in let here : d.number < count = h.0 in absurd (let f : ⊥ = omega (arith, e, here, l) in f)
+      by false is k = k
 
 -- more of them
 pub all_below : (a b : ℕ) → a ≤ b → (bs : List BindingTree) → AllByRecursion (IsBelow a) bs → AllByRecursion (IsBelow b) bs

@@ -171,11 +171,11 @@ module _ (structs : ℕ → Bool) where
   gives_in (inner site gs d) s h = gives_in d (unless_spoilt (groups_mark M.Spoils gs) s) (unspoilt (groups_mark M.Spoils gs) s h)
   gives_in (pointer site ss d) s h = gives_in d (starred ss s) (starred_in ss s h)
   gives_in (array site d held) s h = gives_in d (array_of s) (array_in s h)
-  gives_in (function site d held) s h = by (bare_name d)
+  gives_in (function site d held) s h = by (bare_name d) (gives_in d S.Outside tt)
     where
-      by : (o : Option (List ℕ × Site)) → IfSome (or_else o (λ n. Some (record { name = n.0; site = n.1; gives = s; parameters = held })) (function_in d S.Outside)) (λ (f : SignatureTree). IsShapeOf structs f.gives)
-      by (Some n) = h
-      by None = gives_in d S.Outside tt
+      by : (o : Option (List ℕ × Site)) → IfSome (function_in d S.Outside) (λ (f : SignatureTree). IsShapeOf structs f.gives) → IfSome (or_else o (λ n. Some (record { name = n.0; site = n.1; gives = s; parameters = held })) (function_in d S.Outside)) (λ (f : SignatureTree). IsShapeOf structs f.gives)
+      by (Some n) k = h
+      by None k = k
 
   -- ---- what is known
 
