@@ -202,7 +202,7 @@ module _ (P : TypedProgram) (structs : ℕ → Bool) (run : Run) (is_addressed :
   made_typed e typed c = all_statements P locals (option_map (value_of run) x.function.result) false w.trees ((body_typed e typed (behind_covers c)).1.1)
 
 pub functions_keep_typing : FunctionsKeepTyping
-functions_keep_typing P structs run is_addressed st h x ss known e numbered typed covers = made_typed P structs run is_addressed st h x ss known numbered e typed covers
+functions_keep_typing P structs run is_addressed st h x ss agrees e numbered typed covers = made_typed P structs run is_addressed st h x ss agrees numbered e typed covers
 
 -- ---- what is in scope
 
@@ -218,5 +218,5 @@ pub scopes_keep_typing : ScopesKeepTyping
 scopes_keep_typing = record {
   declarations = λ P structs run st d st1 e n. scopes_kept P structs run st st1 (declaration_goes structs run no_locals st d st1 e n);
   heads = λ P structs run st h st1 e n. scopes_kept P structs run st st1 (head_goes structs run no_locals st h st1 e n);
-  bodies = λ P structs run is_addressed st h x ss known e n. keeps P structs run is_addressed st h x ss known n e;
+  bodies = λ P structs run is_addressed st h x ss agrees e n. keeps P structs run is_addressed st h x ss agrees n e;
 }

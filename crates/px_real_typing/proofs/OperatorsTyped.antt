@@ -1,5 +1,5 @@
 -- What operators make of operands keeps the rules where these do.
-use Rattle.std.proofs.Common.{arith, ◌≡◌, ◌∙◌, ◌-◌, ℕ, zero, suc, Bool, true, false, ◌||◌, List, [], ◌∷◌, ◌++◌, Option, Some, None, refl, sym, ap, subst}
+use Rattle.std.proofs.Common.{◌≡◌, ◌∙◌, ◌-◌, ℕ, zero, suc, Bool, true, false, ◌||◌, List, [], ◌∷◌, ◌++◌, Option, Some, None, refl, sym, ap, subst}
 use Rattle.std.specs.Prelude.{IfSome, if◌then◌else◌, slice_get, codes}
 use Rattle.px_base.specs.declared.trace.Site.{Site}
 use Rattle.px_terms.specs.Types.{types_of}
@@ -269,7 +269,7 @@ module _ (P : TypedProgram) (locals : LocalTypes) (structs : ℕ → Bool) (env 
 
     member_typed : (n : ℕ) (text : List ℕ) (site : Site) (e : Expression) (m : Option Member) → Is (V.Pointer (type_id env (struct n))) e → IfSome m (IsMember P structs env n) → Good (member_at env n text site e m)
     member_typed n text site e (Some (N.Cell number kind)) h k = (k.0, (h, k.1))
-    member_typed n text site e (Some (N.Other known)) h k = (k.0, h, k.1)
+    member_typed n text site e (Some (N.Other other)) h k = (k.0, h, k.1)
     member_typed n text site e None h k = (passed P locals structs env e (V.Pointer (type_id env (struct n))) h, tt)
 
     -- the type of a member is of the structs that there are
