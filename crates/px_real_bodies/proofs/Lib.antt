@@ -1,0 +1,15 @@
+pub mod TabledLemmas
+pub mod HeldLemmas
+pub mod SpelledLemmas
+pub mod ListLemmas
+pub mod ItemLemmas
+pub mod PartLemmas
+pub mod SizeLemmas
+pub mod LabelLemmas
+pub mod LengthLemmas
+pub mod StorageLemmas
+pub mod DeclarationLemmas
+pub mod WalkLemmas
+pub mod StatementLemmas
+pub mod RunLemmas
+pub mod WorkedByReading

@@ -1,0 +1,9 @@
+pub mod Environments
+pub mod Places
+pub mod Phrases
+pub mod Values
+pub mod Declarations
+pub mod Statements
+pub mod Views
+pub mod Laws
+pub mod WorkedBodies
