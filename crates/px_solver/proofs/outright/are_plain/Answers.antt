@@ -1,5 +1,5 @@
 use Rattle.std.proofs.Common.{◌≡◌, ◌+◌, ◌∷◌, ◌∙◌, drop, drop-cons, add-one, sym, ap, ap₂, subst}
-use Rattle.std.proofs.List.Elements.{All-cons, All-tail}
+use Rattle.std.proofs.lemmas.List.Elements.{All-cons, All-tail}
 use Rattle.std.specs.Prelude.{All}
 use Rattle.px_terms.specs.Conjuncts.{IsPlain}
 use Rattle.px_solver.proofs.outright.are_plain.Goals as goal
